@@ -1,0 +1,48 @@
+-- What refuses a statement by its values and the schema alone.
+use Rattle.std.specs.Prelude.{ℕ, not, ◌==◌, List, [], ◌∷◌, ◌++◌, length, min, Some, None}
+use Rattle.std.specs.List.{flat_map}
+use Rattle.std.specs.declared.option.Option.{Option}
+use Rattle.vec_base.specs.declared.refusal.Refusal.{Refusal}
+use Rattle.vec_base.specs.declared.refusal.Refusal.TheVariants.{VectorShape}
+use Rattle.vec_base.specs.declared.value.Value.{Value}
+use Rattle.vec_base.specs.declared.value.Value.TheVariants.{Null, Int, Text, Blob, Int8, Bits}
+use Rattle.row_model.specs.declared.schema.Column.{Column}
+use Rattle.row_model.specs.declared.schema.Kind.{Kind}
+use Rattle.row_model.specs.declared.schema.Kind.TheVariants.{Int8Vector}
+use Rattle.row_model.specs.declared.schema.Place.{Place}
+use Rattle.row_model.specs.declared.schema.Place.TheVariants.{Unknown, Rowid, Declared}
+use Rattle.row_model.specs.declared.statement.Insert.{Insert}
+use Rattle.row_model.specs.Columns.{place_of}
+use Rattle.row_model.specs.Lists.{when, least}
+
+-- the number of a vector's dimensions in a refusal: 4,294,967,295 stands for every greater number too
+abbrev pub capped : ℕ → ℕ
+capped n = min n 4294967295
+
+-- a vector of another number of dimensions than its column's
+abbrev pub shape_faults : ℕ → ℕ → Value → List Refusal
+shape_faults number width (Int8 vector) = when (not (length vector == width)) (VectorShape number width (capped (length vector)))
+shape_faults number width Null = []
+shape_faults number width (Int n) = []
+shape_faults number width (Text text) = []
+shape_faults number width (Blob bytes) = []
+shape_faults number width (Bits bits) = []
+
+abbrev pub kind_faults : ℕ → Kind → Value → List Refusal
+kind_faults number (Int8Vector width metric) value = shape_faults number width value
+
+-- what refuses a value at a place
+abbrev pub value_faults : Place → Value → List Refusal
+value_faults Unknown value = []
+value_faults Rowid value = []
+value_faults (Declared number kind) value = kind_faults number kind value
+
+-- what refuses a row of values for the named columns, in the order of the text
+abbrev pub row_faults : List Column → List (List ℕ) → List Value → List Refusal
+row_faults columns [] values = []
+row_faults columns (name ∷ names) [] = []
+row_faults columns (name ∷ names) (value ∷ values) = value_faults (place_of columns name) value ++ row_faults columns names values
+
+-- what refuses an INSERT
+abbrev pub check_insert : List Column → Insert → Option Refusal
+check_insert columns insert = least (flat_map (row_faults columns insert.columns) insert.rows)

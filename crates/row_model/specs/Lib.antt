@@ -1,0 +1,9 @@
+pub mod Answer
+pub mod Change
+pub mod Check
+pub mod Columns
+pub mod Lists
+pub mod Machine
+pub mod RefusalTexts
+pub mod Rows
+pub mod Shelled

@@ -1,0 +1,79 @@
+-- The literal that is written spells its vector.
+use Rattle.std.proofs.Common.{◌≡◌, ℕ, suc, ◌^◌, ◌<◌, inl, inr, List, [], ◌∷◌, ◌++◌, map, get_or, All, refl, sym, ◌∙◌, ap, subst, Fits, arith}
+use Rattle.std.specs.Prelude.{ℤ, pos, negsuc}
+use Rattle.std.specs.Fmt.{signed_decimal}
+use Rattle.std.specs.Int.{w8, cast_signed, cast_unsigned}
+use Rattle.std.proofs.lemmas.Int.{ints, of_z-to_z}
+use Rattle.std.proofs.lemmas.List.{append-nil}
+use Rattle.std.proofs.lemmas.List.Elements.{All-head, All-tail, All-nil, All-cons, All-from_get_or}
+use Rattle.vec_literal.specs.Int8.{SpellsNumber, SpellsElements, SpellsInside, IsElement, SpellsInt8, elements_text, int8_text}
+use Rattle.vec_literal.proofs.Int8Elements.{bare_element}
+
+-- the elements behind another one
+abbrev pub more_text : List ℕ → List ℕ
+more_text [] = []
+more_text (b ∷ bs) = 44 ∷ (signed_decimal (cast_signed w8 b) ++ more_text bs)
+
+-- the first element and those behind it
+elements_split : (b : ℕ) (bs : List ℕ) → elements_text (b ∷ bs) ≡ signed_decimal (cast_signed w8 b) ++ more_text bs
+elements_split b [] = sym (append-nil (signed_decimal (cast_signed w8 b)))
+elements_split b (c ∷ cs) = ap (λ (x : List ℕ). signed_decimal (cast_signed w8 b) ++ 44 ∷ x) (elements_split c cs)
+
+-- the decimal text of a number spells it
+number_spelled : (z : ℤ) → SpellsNumber (signed_decimal z) z
+number_spelled (pos n) = (n, inl (refl, refl))
+number_spelled (negsuc n) = (suc n, inr (refl, omega (arith, ints)))
+
+-- the text of elements spells their numbers
+elements_spelled : (b : ℕ) (bs : List ℕ) → SpellsElements (elements_text (b ∷ bs)) (map (cast_signed w8) (b ∷ bs))
+elements_spelled b [] = bare_element (signed_decimal (cast_signed w8 b)) (cast_signed w8 b) (number_spelled (cast_signed w8 b))
+elements_spelled b (c ∷ cs) =
+    (signed_decimal (cast_signed w8 b), elements_text (c ∷ cs), refl, bare_element (signed_decimal (cast_signed w8 b)) (cast_signed w8 b) (number_spelled (cast_signed w8 b)), elements_spelled c cs)
+
+inside_spelled : (v : List ℕ) → SpellsInside (elements_text v) (map (cast_signed w8) v)
+inside_spelled [] = inl (refl, refl)
+inside_spelled (b ∷ bs) = inr (elements_spelled b bs)
+
+-- the number of a byte is an element, and gives the byte back
+byte_fits : (b : ℕ) → b < 2 ^ 8 → IsElement (cast_signed w8 b)
+byte_fits b h = (omega (arith, ints), omega (arith, ints))
+
+abbrev AreBytes : List ℕ → Type 0
+AreBytes v = All (λ b. b < 2 ^ 8) v
+
+elements_fit : (v : List ℕ) → AreBytes v → All IsElement (map (cast_signed w8) v)
+elements_fit [] h = All-nil IsElement
+elements_fit (b ∷ bs) h = All-cons IsElement (cast_signed w8 b) (map (cast_signed w8) bs) (byte_fits b (All-head (λ c. c < 2 ^ 8) b bs h)) (elements_fit bs (All-tail (λ c. c < 2 ^ 8) b bs h))
+
+bytes_back : (v : List ℕ) → AreBytes v → v ≡ map (cast_unsigned w8) (map (cast_signed w8) v)
+bytes_back [] h = refl
+bytes_back (b ∷ bs) h =
+    ap (λ (c : ℕ). c ∷ bs) (sym (of_z-to_z w8 b (All-head (λ c. c < 2 ^ 8) b bs h)))
+    ∙ ap (λ (x : List ℕ). cast_unsigned w8 (cast_signed w8 b) ∷ x) (bytes_back bs (All-tail (λ c. c < 2 ^ 8) b bs h))
+
+-- the literal of bytes spells them
+bytes_spell : (v : List ℕ) → AreBytes v → SpellsInt8 (int8_text v) v
+bytes_spell v h = record {
+  elements = map (cast_signed w8) v;
+  list = record {
+    before = [];
+    inside = elements_text v;
+    after = [];
+    whole = refl;
+    blank_before = refl;
+    elements = inside_spelled v;
+    blank_after = refl;
+  };
+  fit = elements_fit v h;
+  bytes = bytes_back v h;
+}
+
+-- a text that is the literal of bytes spells them
+pub written_spells : (t v : List ℕ) → t ≡ int8_text v → ((i : ℕ) → Fits w8 (get_or v i 0)) → SpellsInt8 t v
+written_spells t v e h = subst (λ (x : List ℕ). SpellsInt8 x v) (sym e) (bytes_spell v (All-from_get_or (λ b. b < 2 ^ 8) v 0 (λ i _. let f = h i in omega arith)))
+
+-- the text before the loop: a bracket and the first element
+pub first_written : (v bs t start : List ℕ) (b : ℕ) → v ≡ b ∷ bs → start ≡ 91 ∷ [] → t ≡ start ++ signed_decimal (cast_signed w8 b) → t ++ more_text bs ≡ 91 ∷ elements_text v
+first_written v bs t start b e f g =
+    ap (λ (x : List ℕ). x ++ more_text bs) (g ∙ ap (λ (x : List ℕ). x ++ signed_decimal (cast_signed w8 b)) f)
+    ∙ ap (λ (x : List ℕ). 91 ∷ x) (sym (elements_split b bs) ∙ ap (λ (x : List ℕ). elements_text x) (sym e))

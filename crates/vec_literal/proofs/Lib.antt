@@ -1,0 +1,11 @@
+pub mod Int8Complete
+pub mod Int8Elements
+pub mod Int8Laws
+pub mod Int8Sound
+pub mod Int8Written
+pub mod Lexing
+pub mod Marks
+pub mod Quoted
+pub mod Runs
+pub mod Sorts
+pub mod Texts

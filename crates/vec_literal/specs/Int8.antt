@@ -1,0 +1,69 @@
+-- The literal of an int8 vector: numbers from -128 to 127 in brackets, as `[1, -2]`.
+use Rattle.std.specs.Prelude.{◌≡◌, ◌⊎◌, ℕ, ℤ, pos, negsuc, ◌-ℤ◌, ◌≤ℤ◌, Bool, true, ◌||◌, ◌==◌, List, [], ◌∷◌, ◌++◌, map, All}
+use Rattle.std.specs.Fmt.{decimal, signed_decimal}
+use Rattle.std.specs.Int.{w8, cast_signed, cast_unsigned}
+use Rattle.std.specs.List.{list_all}
+
+-- white space of JSON: space, tab, line feed, carriage return
+abbrev pub is_space : ℕ → Bool
+is_space b = b == 32 || b == 9 || b == 10 || b == 13
+
+-- nothing but white space
+abbrev pub IsBlank : List ℕ → Type 0
+IsBlank bytes = list_all is_space bytes ≡ true
+
+-- an optional `-` and decimal digits without a leading zero; `-0` is 0
+abbrev pub SpellsNumber : List ℕ → ℤ → Type 0
+SpellsNumber bytes z = (n : ℕ) × (((bytes ≡ decimal n) × (z ≡ pos n)) ⊎ ((bytes ≡ 45 ∷ decimal n) × (z ≡ pos 0 -ℤ pos n)))
+
+-- a number with white space before and after it
+pub record SpellsElement (bytes : List ℕ) (z : ℤ) : Type 0 where
+  pub before : List ℕ
+  pub number : List ℕ
+  pub after : List ℕ
+  pub whole : bytes ≡ before ++ (number ++ after)
+  pub blank_before : IsBlank before
+  pub spelled : SpellsNumber number z
+  pub blank_after : IsBlank after
+
+-- one element, or several that commas separate
+abbrev pub SpellsElements : List ℕ → List ℤ → Type 0
+SpellsElements bytes [] = ⊥
+SpellsElements bytes (z ∷ []) = SpellsElement bytes z
+SpellsElements bytes (z ∷ y ∷ zs) =
+    (first rest : List ℕ) × (bytes ≡ first ++ 44 ∷ rest) × SpellsElement first z × SpellsElements rest (y ∷ zs)
+
+-- what stands between the brackets: nothing but white space, or elements
+abbrev pub SpellsInside : List ℕ → List ℤ → Type 0
+SpellsInside bytes zs = ((zs ≡ []) × IsBlank bytes) ⊎ SpellsElements bytes zs
+
+-- the brackets and what stands in them, with white space before and after
+pub record SpellsList (text : List ℕ) (zs : List ℤ) : Type 0 where
+  pub before : List ℕ
+  pub inside : List ℕ
+  pub after : List ℕ
+  pub whole : text ≡ before ++ 91 ∷ (inside ++ 93 ∷ after)
+  pub blank_before : IsBlank before
+  pub elements : SpellsInside inside zs
+  pub blank_after : IsBlank after
+
+-- the number is one of a byte's from -128 to 127
+abbrev pub IsElement : ℤ → Type 0
+IsElement z = (negsuc 127 ≤ℤ z) × (z ≤ℤ pos 127)
+
+-- The text spells the vector: its elements fit, and each byte of the vector stands for one.
+pub record SpellsInt8 (text vector : List ℕ) : Type 0 where
+  pub elements : List ℤ
+  pub list : SpellsList text elements
+  pub fit : All IsElement elements
+  pub bytes : vector ≡ map (cast_unsigned w8) elements
+
+-- the elements in decimal, separated by commas
+abbrev pub elements_text : List ℕ → List ℕ
+elements_text [] = []
+elements_text (b ∷ []) = signed_decimal (cast_signed w8 b)
+elements_text (b ∷ c ∷ bs) = signed_decimal (cast_signed w8 b) ++ 44 ∷ elements_text (c ∷ bs)
+
+-- the literal of a vector without white space
+abbrev pub int8_text : List ℕ → List ℕ
+int8_text vector = 91 ∷ (elements_text vector ++ 93 ∷ [])

@@ -1,0 +1,110 @@
+-- Reading an int8 literal byte by byte. Only clauses of private functions speak of it: proofs/Int8Sound.antt and
+-- proofs/Int8Complete.antt show that it reads just the texts that SpellsInt8 allows.
+use Rattle.std.specs.Prelude.{◌≡◌, MatchBool, ℕ, ◌+◌, ◌-◌, ◌*◌, ◌%◌, Bool, true, false, if◌then◌else◌, ◌==◌, nat_lt, nat_le, List, [], ◌∷◌, ◌++◌, length, Option, Some, None, Result, Ok, Err}
+use Rattle.std.specs.Option.{option_map, option_and_then}
+use Rattle.std.specs.Char.{is_ascii_digit}
+use Rattle.vec_literal.specs.Int8.{is_space}
+use Rattle.vec_literal.specs.declared.int8.LitFault.{LitFault}
+use Rattle.vec_literal.specs.declared.int8.LitFault.TheVariants.{Place, Range}
+use Rattle.vec_literal.specs.declared.int8.Number.{Number}
+use Rattle.vec_literal.specs.declared.int8.Stage.{Stage}
+use Rattle.vec_literal.specs.declared.int8.Stage.TheVariants.{Start, Opened, Comma, Minus, Digits, Between, Closed}
+use Rattle.vec_literal.specs.declared.int8.Reader.{Reader}
+
+-- the byte of an element, or nothing where the number does not fit
+abbrev pub byte_of : Number → Option ℕ
+byte_of n =
+    if n.negative
+    then (if nat_le n.magnitude 128 then Some ((256 - n.magnitude) % 256) else None)
+    else (if nat_le n.magnitude 127 then Some n.magnitude else None)
+
+-- one digit more; a magnitude of 1000 and more is too large anyhow and stays
+abbrev pub more_digits : ℕ → ℕ → ℕ
+more_digits m b = if nat_lt m 1000 then m * 10 + (b - 48) else m
+
+-- a digit that begins a number; it may be a zero
+abbrev pub first_digit : Bool → ℕ → Option Stage
+first_digit negative b =
+    if is_ascii_digit b then Some (Digits (record { negative = negative; magnitude = b - 48 })) else None
+
+-- a digit after a digit; none may follow a leading zero
+abbrev pub next_digit : Number → ℕ → Option Stage
+next_digit n b =
+    if n.magnitude == 0 then None else Some (Digits (record n { magnitude = more_digits n.magnitude b }))
+
+-- a sign or a digit that begins a number
+abbrev pub number_start : ℕ → Option Stage
+number_start b = if b == 45 then Some Minus else first_digit false b
+
+-- a mark that ends an element
+abbrev pub after_element : ℕ → Option Stage
+after_element b = if b == 44 then Some Comma else if b == 93 then Some Closed else None
+
+-- white space: it ends a number, and may not follow its sign
+abbrev pub after_space : Stage → Option Stage
+after_space Start = Some Start
+after_space Opened = Some Opened
+after_space Comma = Some Comma
+after_space Minus = None
+after_space (Digits n) = Some Between
+after_space Between = Some Between
+after_space Closed = Some Closed
+
+-- any other byte
+abbrev pub after_mark : Stage → ℕ → Option Stage
+after_mark Start b = if b == 91 then Some Opened else None
+after_mark Opened b = if b == 93 then Some Closed else number_start b
+after_mark Comma b = number_start b
+after_mark Minus b = first_digit true b
+after_mark (Digits n) b = if is_ascii_digit b then next_digit n b else after_element b
+after_mark Between b = after_element b
+after_mark Closed b = None
+
+-- the stage after a byte, or nothing where the byte does not fit the form
+abbrev pub stage_after : Stage → ℕ → Option Stage
+stage_after stage b = if is_space b then after_space stage else after_mark stage b
+
+-- one element more: its byte, or its index where it does not fit
+abbrev pub with_byte : Reader → Option ℕ → Reader
+with_byte r (Some b) = record r { vector = r.vector ++ b ∷ [] }
+with_byte r None = record r { misfit = Some (length r.vector) }
+
+-- once an element does not fit, no other is kept
+abbrev pub with_element : Reader → Number → Reader
+with_element r n = elim r.misfit [ Some i ↦ r | None ↦ with_byte r (byte_of n) ]
+
+-- a number ends where a byte that is no digit follows it
+abbrev pub ended_in : Reader → Stage → Reader
+ended_in r (Digits n) = with_element r n
+ended_in r stage = r
+
+-- what a byte ends
+abbrev pub ended : Reader → ℕ → Reader
+ended r b = if is_ascii_digit b then r else ended_in r r.stage
+
+-- the reader after a byte, or nothing where the byte does not fit the form
+abbrev pub read_byte : Reader → ℕ → Option Reader
+read_byte r b = option_map (λ next. record (ended r b) { stage = next }) (stage_after r.stage b)
+
+-- the byte is read, or it does not fit the form
+abbrev pub ReadsByte : Reader → ℕ → Bool → Reader → Type 0
+ReadsByte old b fits new = MatchBool fits (read_byte old b ≡ Some new) (read_byte old b ≡ None)
+
+-- the reader after bytes
+abbrev pub read_bytes : Reader → List ℕ → Option Reader
+read_bytes r [] = Some r
+read_bytes r (b ∷ bs) = option_and_then (λ next. read_bytes next bs) (read_byte r b)
+
+-- the reader at a stage, with the bytes of the elements before it, which all fit
+abbrev pub reader_at : Stage → List ℕ → Reader
+reader_at stage vector = record { stage = stage; vector = vector; misfit = None }
+
+-- the list is closed
+abbrev pub is_closed : Stage → Bool
+is_closed Closed = true
+is_closed _ = false
+
+-- what a reader answers where the text, of this length, ends
+abbrev pub outcome_of : Reader → ℕ → Result (List ℕ) LitFault
+outcome_of r length =
+    if is_closed r.stage then elim r.misfit [ Some i ↦ Err (Range i) | None ↦ Ok r.vector ] else Err (Place length)

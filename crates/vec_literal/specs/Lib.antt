@@ -1,0 +1,5 @@
+pub mod Faults
+pub mod Int8
+pub mod Int8Reading
+pub mod Stretches
+pub mod Tokens

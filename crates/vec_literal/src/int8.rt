@@ -1,0 +1,382 @@
+ghost use Rattle.std.specs.Prelude.{◌≡◌, ℕ, [], ◌++◌, List, IfOk, OnOk, string_bytes};
+ghost use Rattle.std.specs.Fmt.{signed_decimal};
+ghost use Rattle.std.specs.Int.{w8, cast_signed};
+ghost use Rattle.vec_literal.specs.Int8.{SpellsInt8, int8_text, is_space};
+ghost use Rattle.vec_literal.specs.Faults.{ReadsAs};
+ghost use Rattle.vec_literal.specs.Int8Reading.{number_start, first_digit, after_element};
+
+use std::alloc::{AllocError, Global};
+use vec_base::{Bytes, Memory, Txt};
+
+/// Why a literal is not read.
+#[derive(Clone, Copy, Debug, PartialEq, Eq)]
+pub enum LitFault {
+    /// The text is not in the form; the number of its first bytes that some literal begins with.
+    Place(usize),
+    /// The form is right and an element does not fit; the index of the first such element.
+    Range(usize),
+    /// The number of hexadecimal digits is odd.
+    OddHex,
+    Memory,
+}
+
+impl From<Memory> for LitFault {
+    ghost use Rattle.vec_literal.specs.declared.int8.LitFault.TheVariants.{Memory as WantOfMemory};
+
+    ghost from_gives = { λ _ e. e ≡ WantOfMemory };
+
+    fn from(_: Memory) -> Self {
+        LitFault::Memory
+    }
+}
+
+/// The vector that the text spells, one byte for each element.
+pub fn read_int8(alloc: Global, text: &[u8]) -> Result<Bytes, LitFault>
+    ensures found { IfOk result (λ vector. SpellsInt8 text.now vector) }
+    ensures only { (vector : List ℕ) → SpellsInt8 text.now vector → ReadsAs result vector }
+{
+    let mut reader = Reader::new(alloc);
+    for (place, byte) in text.iter().enumerate() {
+        if !reader.read(*byte)? {
+            return Err(LitFault::Place(place));
+        }
+    }
+    reader.finish(text.len())
+}
+
+/// The literal of the vector, without white space. Reading it gives the vector.
+pub fn write_int8(alloc: Global, vector: &[u8]) -> Result<Txt, Memory>
+    ensures text { IfOk result (λ t. t ≡ int8_text vector.now) }
+    ensures reads_back { IfOk result (λ t. SpellsInt8 t vector.now) }
+{
+    Ok(Txt::from_string(literal(alloc, vector)?))
+}
+
+/// A literal of which the bytes so far are read.
+#[derive(Drop)]
+struct Reader {
+    stage: Stage,
+    /// The bytes of the elements before the first that does not fit.
+    vector: Bytes,
+    /// The index of the first element that does not fit.
+    misfit: Option<usize>,
+}
+
+impl Reader {
+    ghost use Rattle.vec_literal.specs.Int8Reading.{ReadsByte, with_element, ended, reader_at, outcome_of};
+
+    /// A reader that has read nothing.
+    fn new(alloc: Global) -> Reader
+        ensures { result ≡ reader_at Stage.Start [] }
+    {
+        Reader {
+            stage: Stage::Start,
+            vector: Bytes::new(alloc),
+            misfit: None,
+        }
+    }
+
+    /// Reads the next byte. Answers `false` where it does not fit the form.
+    fn read(&mut self, byte: u8) -> Result<bool, Memory>
+        ensures { IfOk result (λ fits. ReadsByte self.old byte fits self.new) }
+    {
+        let Some(next) = self.stage.after(byte) else {
+            return Ok(false);
+        };
+        self.end_number(byte)?;
+        self.stage = next;
+        Ok(true)
+    }
+
+    /// Takes over the number that the byte ends, if it ends one.
+    fn end_number(&mut self, byte: u8) -> Result<(), Memory>
+        ensures { OnOk result (self.new ≡ ended self.old byte) }
+    {
+        match self.stage {
+            Stage::Digits(number) if !byte.is_ascii_digit() => self.add(number),
+            _ => Ok(()),
+        }
+    }
+
+    /// Takes over an element.
+    fn add(&mut self, number: Number) -> Result<(), Memory>
+        ensures { OnOk result (self.new ≡ with_element self.old number) }
+    {
+        if self.misfit.is_some() {
+            return Ok(());
+        }
+        match number.byte() {
+            Some(byte) => self.vector.push(byte),
+            None => {
+                self.misfit = Some(self.vector.len());
+                Ok(())
+            }
+        }
+    }
+
+    /// The vector of a text, of this length in bytes, that ends here.
+    fn finish(self, length: usize) -> Result<Bytes, LitFault>
+        ensures { result ≡ outcome_of self length }
+    {
+        if !matches!(self.stage, Stage::Closed) {
+            return Err(LitFault::Place(length));
+        }
+        match self.misfit {
+            Some(index) => Err(LitFault::Range(index)),
+            None => Ok(self.vector),
+        }
+    }
+}
+
+/// What stands before the next byte, and so which bytes may come.
+#[derive(Clone, Copy)]
+enum Stage {
+    /// Nothing but white space.
+    Start,
+    /// `[`, and maybe white space.
+    Opened,
+    /// `,`, and maybe white space.
+    Comma,
+    /// `-`.
+    Minus,
+    /// A digit.
+    Digits(Number),
+    /// An element and white space.
+    Between,
+    /// `]`, and maybe white space.
+    Closed,
+}
+
+impl Stage {
+    ghost use Rattle.vec_literal.specs.Int8Reading.{after_space, after_mark, stage_after};
+
+    /// The stage after the byte, or `None` where the byte does not fit the form.
+    fn after(self, byte: u8) -> Option<Stage>
+        ensures { result ≡ stage_after self byte }
+    {
+        if is_space(byte) {
+            self.after_space()
+        } else {
+            self.after_mark(byte)
+        }
+    }
+
+    /// The stage after white space.
+    fn after_space(self) -> Option<Stage>
+        ensures { result ≡ after_space self }
+    {
+        match self {
+            Stage::Minus => None,
+            Stage::Digits(_) => Some(Stage::Between),
+            _ => Some(self),
+        }
+    }
+
+    /// The stage after a byte that is no white space.
+    fn after_mark(self, byte: u8) -> Option<Stage>
+        ensures { result ≡ after_mark self byte }
+    {
+        match self {
+            Stage::Start => (byte == b'[').then_some(Stage::Opened),
+            Stage::Opened => {
+                if byte == b']' {
+                    Some(Stage::Closed)
+                } else {
+                    number_start(byte)
+                }
+            }
+            Stage::Comma => number_start(byte),
+            Stage::Minus => first_digit(true, byte),
+            Stage::Digits(number) => {
+                if byte.is_ascii_digit() {
+                    number.next_digit(byte)
+                } else {
+                    after_element(byte)
+                }
+            }
+            Stage::Between => after_element(byte),
+            Stage::Closed => None,
+        }
+    }
+}
+
+/// Whether the byte is white space of JSON.
+fn is_space(byte: u8) -> bool
+    ensures { result ≡ is_space byte }
+{
+    matches!(byte, b' ' | b'\t' | b'\n' | b'\r')
+}
+
+/// The stage after the first byte of an element.
+fn number_start(byte: u8) -> Option<Stage>
+    ensures { result ≡ number_start byte }
+{
+    if byte == b'-' {
+        Some(Stage::Minus)
+    } else {
+        first_digit(false, byte)
+    }
+}
+
+/// The stage after the first digit of an element.
+fn first_digit(negative: bool, byte: u8) -> Option<Stage>
+    ensures { result ≡ first_digit negative byte }
+{
+    if byte.is_ascii_digit() {
+        Some(Stage::Digits(Number {
+            negative,
+            magnitude: u16::from(byte - b'0'),
+        }))
+    } else {
+        None
+    }
+}
+
+/// The stage after the mark that ends an element.
+fn after_element(byte: u8) -> Option<Stage>
+    ensures { result ≡ after_element byte }
+{
+    match byte {
+        b',' => Some(Stage::Comma),
+        b']' => Some(Stage::Closed),
+        _ => None,
+    }
+}
+
+/// A number of which the digits so far are read.
+#[derive(Clone, Copy)]
+struct Number {
+    negative: bool,
+    /// The number without its sign. From `TOO_LARGE` on it grows no further.
+    magnitude: u16,
+}
+
+/// A magnitude that fits no element, with any sign.
+const TOO_LARGE: u16 = 1000;
+
+impl Number {
+    ghost use Rattle.std.specs.Prelude.{IsTrue};
+    ghost use Rattle.std.specs.Char.{is_ascii_digit};
+    ghost use Rattle.vec_literal.specs.Int8Reading.{byte_of, next_digit};
+
+    /// The byte of the element, or `None` where the number is outside -128 to 127.
+    fn byte(self) -> Option<u8>
+        ensures { result ≡ byte_of self }
+    {
+        if self.negative {
+            if self.magnitude <= 128 {
+                Some(((256 - self.magnitude) % 256) as u8)
+            } else {
+                None
+            }
+        } else if self.magnitude <= 127 {
+            Some(self.magnitude as u8)
+        } else {
+            None
+        }
+    }
+
+    /// The stage with one digit more, or `None` after a leading zero.
+    fn next_digit(self, digit: u8) -> Option<Stage>
+        requires { IsTrue (is_ascii_digit digit) }
+        ensures { result ≡ next_digit self digit }
+    {
+        if self.magnitude == 0 {
+            return None;
+        }
+        let magnitude = if self.magnitude < TOO_LARGE {
+            self.magnitude * 10 + u16::from(digit - b'0')
+        } else {
+            self.magnitude
+        };
+        Some(Stage::Digits(Number {
+            negative: self.negative,
+            magnitude,
+        }))
+    }
+}
+
+/// The literal of the vector, without white space.
+fn literal(alloc: Global, vector: &[u8]) -> Result<String, AllocError>
+    ensures { IfOk result (λ t. string_bytes t ≡ int8_text vector.now) }
+{
+    let mut text = String::new(alloc);
+    text.push('[')?;
+    if let Some((first, rest)) = vector.split_first() {
+        write_element(&mut text, *first)?;
+        for byte in rest {
+            text.push(',')?;
+            write_element(&mut text, *byte)?;
+        }
+    }
+    text.push(']')?;
+    Ok(text)
+}
+
+/// Adds the decimal number of an element.
+fn write_element(text: &mut String, byte: u8) -> Result<(), AllocError>
+    ensures { OnOk result (string_bytes text.new ≡ string_bytes text.old ++ signed_decimal (cast_signed w8 byte)) }
+{
+    let mut buffer = itoa::Buffer::new();
+    text.push_str(buffer.format(byte.cast_signed()))
+}
+
+#[cfg(test)]
+mod tests {
+    use super::*;
+
+    /// Forty digits.
+    const FORTY: &[u8] = b"[9999999999999999999999999999999999999999]";
+
+    /// Texts, and the vector or the fault that each is to give.
+    const READ: [(&[u8], Result<&[u8], LitFault>); 26] = [
+        (b"[]", Ok(&[])),
+        (b" [\t] \n", Ok(&[])),
+        (b"[ -128 , 127 ]", Ok(&[128, 127])),
+        (b"[1,-2]", Ok(&[1, 254])),
+        (b"\r[-0,0,10,-100]", Ok(&[0, 0, 10, 156])),
+        (b"", Err(LitFault::Place(0))),
+        (b"x", Err(LitFault::Place(0))),
+        (b"  ", Err(LitFault::Place(2))),
+        (b"[1,2", Err(LitFault::Place(4))),
+        (b"[01]", Err(LitFault::Place(2))),
+        (b"[-01]", Err(LitFault::Place(3))),
+        (b"[1.5]", Err(LitFault::Place(2))),
+        (b"[1e1]", Err(LitFault::Place(2))),
+        (b"[+1]", Err(LitFault::Place(1))),
+        (b"[1,]", Err(LitFault::Place(3))),
+        (b"[,1]", Err(LitFault::Place(1))),
+        (b"[1 2]", Err(LitFault::Place(3))),
+        (b"[- 1]", Err(LitFault::Place(2))),
+        (b"[1]x", Err(LitFault::Place(3))),
+        (b"[-", Err(LitFault::Place(2))),
+        (b"[300,,", Err(LitFault::Place(5))),
+        (b"[1,200]", Err(LitFault::Range(1))),
+        (b"[128]", Err(LitFault::Range(0))),
+        (b"[-129,-1000,5]", Err(LitFault::Range(0))),
+        (b"[5,1280 ,-128,1000]", Err(LitFault::Range(1))),
+        (FORTY, Err(LitFault::Range(0))),
+    ];
+
+    /// Whether reading the text gives the bytes or the fault.
+    fn reads(rt: &HostRuntime, text: &[u8], wanted: Result<&[u8], LitFault>) -> bool {
+        match (read_int8(rt.alloc(), text), wanted) {
+            (Ok(vector), Ok(bytes)) => vector.as_slice() == bytes,
+            (Err(fault), Err(other)) => fault == other,
+            _ => false,
+        }
+    }
+
+    #[test]
+    fn reads_and_writes(rt: HostRuntime) {
+        for (text, wanted) in READ {
+            assert!(rt; reads(&rt, text, wanted));
+        }
+        for (vector, wanted) in [(&[1, 254][..], "[1,-2]"), (&[][..], "[]")] {
+            match write_int8(rt.alloc(), vector) {
+                Ok(text) => assert!(rt; text.as_text() == wanted),
+                Err(_) => assert!(rt; false),
+            }
+        }
+    }
+}

@@ -1,0 +1,8 @@
+//! The tokens of statements, and the literals of int8 vectors.
+#![tactic(auto)]
+
+mod int8;
+mod token;
+
+pub use int8::{LitFault, read_int8, write_int8};
+pub use token::{Lexed, Token, TokenSort, next_token};

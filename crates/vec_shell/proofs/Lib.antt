@@ -1,0 +1,14 @@
+pub mod Enclosing
+pub mod Handing
+pub mod Kept
+pub mod Numbers
+pub mod Opens
+pub mod PieceLaws
+pub mod Progressing
+pub mod Reading
+pub mod SentLaws
+pub mod Serving
+pub mod Standing
+pub mod Texts
+pub mod Wording
+pub mod Writing

@@ -1,0 +1,5 @@
+use Rattle.std.proofs.Common.{◌≡◌, inl, refl}
+use Rattle.vec_shell.proofs.list_session.ListSession.select.Goals as goal
+
+pub returns-in-Ok : goal.returns-in-Ok
+returns-in-Ok c = rw (c.in-Some.is, c.in-Ok.ensures, c.as_slice.ensures) (inl refl)

@@ -1,0 +1,12 @@
+use Rattle.std.proofs.Common.{◌≡◌, List, ℕ, subst, ◌∙◌}
+use Rattle.row_model.specs.Shelled.{Answers}
+use Rattle.vec_shell.specs.Forms.{Reads}
+use Rattle.vec_shell.specs.Pieces.{trim}
+use Rattle.vec_shell.proofs.Kept.{answers_kept}
+use Rattle.vec_shell.proofs.shell.reply_to.Goals as goal
+
+pub returns : goal.returns
+returns g c = λ piece stands.
+    answers_kept 1 (g.Z.Session.state c.args.session.now) (g.Z.Session.state c.answer.new.self) (trim piece) c.answer.result
+    (subst (λ (t : List ℕ). Answers Reads 1 (g.Z.Session.state c.args.session.now) t c.answer.result (g.Z.Session.state c.answer.new.self))
+    (c.as_slice.ensures ∙ stands.text c.if-cutter.false) c.answer.ensures)

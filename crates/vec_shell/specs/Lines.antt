@@ -1,0 +1,51 @@
+-- The lines that the shell writes for a reply.
+use Rattle.std.specs.Prelude.{ℕ, ◌/◌, ◌%◌, ◌==◌, if◌then◌else◌, List, [], ◌∷◌, ◌++◌, length, slice_index, codes}
+use Rattle.std.specs.Fmt.{decimal, signed_decimal}
+use Rattle.std.specs.List.{flat_map}
+use Rattle.vec_base.specs.declared.value.Value.{Value}
+use Rattle.vec_base.specs.declared.value.Value.TheVariants.{Null, Int, Text, Blob, Int8, Bits}
+use Rattle.vec_base.specs.Refusals.{number_of}
+use Rattle.vec_literal.specs.Int8.{int8_text}
+use Rattle.row_model.specs.declared.request.Reply.{Reply}
+use Rattle.row_model.specs.declared.request.Reply.TheVariants.{Done, Inserted, Rows, Session, Refused}
+use Rattle.row_model.specs.RefusalTexts.{refusal_text}
+
+-- the text with each quote twice
+abbrev pub doubled : List ℕ → List ℕ
+doubled [] = []
+doubled (b ∷ bs) = if b == 39 then 39 ∷ 39 ∷ doubled bs else b ∷ doubled bs
+
+-- a byte as two hexadecimal digits in capitals
+abbrev pub hex_byte : ℕ → List ℕ
+hex_byte b = slice_index (codes "0123456789ABCDEF") (b / 16) ∷ slice_index (codes "0123456789ABCDEF") (b % 16) ∷ []
+
+abbrev pub hex_text : List ℕ → List ℕ
+hex_text bytes = flat_map hex_byte bytes
+
+abbrev pub value_text : Value → List ℕ
+value_text Null = codes "NULL"
+value_text (Int n) = signed_decimal n
+value_text (Text text) = codes "'" ++ doubled text ++ codes "'"
+value_text (Blob bytes) = codes "X'" ++ hex_text bytes ++ codes "'"
+value_text (Int8 vector) = codes "vec_int8('" ++ int8_text vector ++ codes "')"
+value_text (Bits bytes) = codes "vec_bit(X'" ++ hex_text bytes ++ codes "')"
+
+-- the values with `|` between them
+abbrev pub values_text : List Value → List ℕ
+values_text [] = []
+values_text (v ∷ []) = value_text v
+values_text (v ∷ w ∷ vs) = value_text v ++ 124 ∷ values_text (w ∷ vs)
+
+abbrev pub row_line : List Value → List ℕ
+row_line values = values_text values ++ 10 ∷ []
+
+-- the lines of a reply, each with a line feed; that a session was opened is not written
+abbrev pub lines : Reply → List ℕ
+lines Done = codes "ok\n"
+lines (Inserted count last) = codes "ok inserted " ++ decimal count ++ codes " last " ++ signed_decimal last ++ codes "\n"
+lines (Rows rows) = flat_map row_line rows ++ codes "rows " ++ decimal (length rows) ++ codes "\n"
+lines (Session id) = []
+lines (Refused refusal) = codes "error " ++ decimal (number_of refusal) ++ codes " " ++ refusal_text refusal ++ codes "\n"
+
+abbrev pub lines_of : List Reply → List ℕ
+lines_of replies = flat_map lines replies

@@ -1,0 +1,17 @@
+//! The shell: statements are read from a source, one after another, and their replies are written to a sink.
+#![tactic(auto)]
+
+mod cutter;
+mod form;
+mod list_session;
+mod output;
+mod session;
+mod shell;
+mod tally;
+mod top;
+mod writer;
+
+pub use list_session::ListSession;
+pub use session::Session;
+pub use shell::{Ending, Finished, Room, run_session};
+pub use top::run;

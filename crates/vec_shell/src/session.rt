@@ -1,0 +1,15 @@
+ghost use Rattle.row_model.specs.declared.state.State.{State};
+ghost use Rattle.row_model.specs.Shelled.{Answers};
+ghost use Rattle.vec_shell.specs.Forms.{Reads};
+
+use row_model::Reply;
+
+/// What answers statement texts, one after another, in the session with the id 1.
+pub trait Session {
+    /// The state of the machine that it stands for.
+    ghost state: { Self → State };
+
+    /// The reply to a text. Want of memory is refusal 25 and leaves the state.
+    fn answer(&mut self, text: &[u8]) -> Reply
+        ensures { Answers Reads 1 (state self.old) text.now result (state self.new) };
+}

@@ -1,0 +1,46 @@
+ghost use Rattle.std.specs.Prelude.{◌≡◌, ◌⊎◌, ◌↔◌, true, false, map, codes, string_bytes};
+ghost use Rattle.vec_base.specs.Streams.{Rose};
+ghost use Rattle.vec_shell.specs.Headline.{streams};
+ghost use Rattle.vec_shell.specs.Outcome.{is_shell, LastLine, RanShell};
+
+use crate::output::write_all;
+use crate::{ListSession, Room, run_session};
+use std::alloc::Global;
+use vec_base::{Memory, Sink, Source};
+
+fn is_shell(words: &[String]) -> bool
+    ensures { result ≡ is_shell (map string_bytes words.now) }
+{
+    match words {
+        [word] => word.as_str() == "shell",
+        _ => false,
+    }
+}
+
+/// All that the program does; the words are those after its name. Answers the exit status.
+///
+/// With the one word `shell` it reads statements from the source to its end and writes their replies to the sink.
+pub fn run<S: Source, O: Sink>(alloc: Global, words: &[String], source: &mut S, sink: &mut O) -> u8
+    ensures words { (result ≡ 1) ↔ (is_shell (map string_bytes words.now) ≡ false) }
+    ensures refused { is_shell (map string_bytes words.now) ≡ false →
+        (source.new ≡ source.old) × LastLine (codes "error words\n") (O.taken sink.old) (O.taken sink.new) (O.faults sink.old) (O.faults sink.new) }
+    ensures shell { is_shell (map string_bytes words.now) ≡ true →
+        RanShell (streams (S.left source.old) (S.given source.old) (O.taken sink.old))
+            (streams (S.left source.new) (S.given source.new) (O.taken sink.new)) result
+        ⊎ ((result ≡ 7) × (source.new ≡ source.old)
+            × LastLine (codes "error memory\n") (O.taken sink.old) (O.taken sink.new) (O.faults sink.old) (O.faults sink.new)) }
+    ensures read { result ≡ 3 → Rose (S.faults source.old) (S.faults source.new) }
+    ensures write { result ≡ 4 → Rose (O.faults sink.old) (O.faults sink.new) }
+{
+    if !is_shell(words) {
+        let _ = write_all(sink, b"error words\n");
+        return 1;
+    }
+    match Room::new(alloc) {
+        Ok(room) => run_session(alloc, room, ListSession::new(alloc), source, sink).status,
+        Err(Memory) => {
+            let _ = write_all(sink, b"error memory\n");
+            7
+        }
+    }
+}
