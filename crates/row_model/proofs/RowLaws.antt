@@ -1,11 +1,10 @@
 -- Rows by rising rowids: where a row stands, and what goes in there.
-use Rattle.std.proofs.Common.{◌≡◌, ◌≢◌, ℕ, zero, suc, ℤ, int_lt, ◌<◌, ◌≤◌, Bool, true, false, ◌&&◌, ◌||◌, if◌then◌else◌, cond, Less, Equal, Greater, List, [], ◌∷◌, length, get_or, refl, sym, ap, ◌∙◌, subst, arith}
-use Rattle.std.specs.List.{list_all, list_any, insert, AllWithin}
+use Rattle.std.proofs.Common.{◌≡◌, ℕ, zero, suc, ℤ, int_lt, ◌<◌, ◌≤◌, Bool, true, false, ◌||◌, if◌then◌else◌, cond, Less, Equal, Greater, List, [], ◌∷◌, length, get_or, refl, ap, ◌∙◌, arith}
+use Rattle.std.specs.List.{list_all, insert, AllWithin}
 use Rattle.std.specs.List.Sorted.{IsNonDecreasingBy, IsPartitionPoint}
 use Rattle.std.specs.Ordering.{int_cmp, int_eq, is_eq, ordering_index}
 use Rattle.std.specs.declared.cmp.Ordering.{Ordering}
 use Rattle.std.proofs.lemmas.Bool.{and_parts, and_from, cond-true, cond-false}
-use Rattle.std.proofs.lemmas.Bool.Decides.{nat_tests}
 use Rattle.std.proofs.lemmas.Int.{ints}
 use Rattle.row_model.specs.declared.row.Row.{Row}
 use Rattle.row_model.specs.Rows.{has_rowid, with_row, is_rising}

@@ -1,12 +1,9 @@
 -- Worked examples of the machine, each proved by computing.
-use Rattle.std.proofs.Common.{◌≡◌, ℕ, ℤ, pos, List, [], ◌∷◌, codes, refl}
+use Rattle.std.proofs.Common.{◌≡◌, ℕ, pos, List, [], ◌∷◌, codes, refl}
 use Rattle.vec_base.specs.declared.refusal.Refusal.TheVariants.{NoTable, TableExists, VectorShape, Duplicate, NoSession}
-use Rattle.vec_base.specs.declared.value.Value.{Value}
 use Rattle.vec_base.specs.declared.value.Value.TheVariants.{Int, Int8}
-use Rattle.row_model.specs.declared.schema.Schema.{Schema}
 use Rattle.row_model.specs.declared.schema.Kind.TheVariants.{Int8Vector}
 use Rattle.row_model.specs.declared.schema.Metric.TheVariants.{L2}
-use Rattle.row_model.specs.declared.statement.Statement.{Statement}
 use Rattle.row_model.specs.declared.statement.Statement.TheVariants.{Create, Insert, Select}
 use Rattle.row_model.specs.declared.statement.Items.TheVariants.{Named}
 use Rattle.row_model.specs.declared.state.State.{State}

@@ -1,5 +1,5 @@
 -- What a SELECT answers.
-use Rattle.std.specs.Prelude.{ℕ, ◌-◌, List, map, slice_index_or}
+use Rattle.std.specs.Prelude.{◌-◌, List, map, slice_index_or}
 use Rattle.vec_base.specs.declared.value.Value.{Value}
 use Rattle.vec_base.specs.declared.value.Value.TheVariants.{Null, Int}
 use Rattle.row_model.specs.declared.schema.Column.{Column}

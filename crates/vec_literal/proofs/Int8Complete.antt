@@ -4,6 +4,7 @@ use Rattle.std.specs.Prelude.{ℤ, pos, ◌-ℤ◌}
 use Rattle.std.specs.Fmt.{decimal}
 use Rattle.std.specs.Char.{is_ascii_digit}
 use Rattle.std.specs.Int.{w8, cast_unsigned}
+use Rattle.std.specs.Str.Parse.{digits_value}
 use Rattle.std.specs.Option.{option_map, option_and_then}
 use Rattle.std.proofs.lemmas.Bool.{and_parts, or_cases, eqb-true, ne_eqb, le-leb, cond-true, cond-false}
 use Rattle.std.proofs.lemmas.Fmt.{decimal_by_steps_wide}
@@ -16,6 +17,7 @@ use Rattle.vec_literal.specs.declared.int8.Stage.{Stage}
 use Rattle.vec_literal.specs.declared.int8.Stage.TheVariants.{Start, Opened, Comma, Minus, Digits, Between, Closed}
 use Rattle.vec_literal.specs.declared.int8.Reader.{Reader}
 use Rattle.vec_literal.specs.Int8Reading.{byte_of, more_digits, stage_after, next_digit, with_byte, ended, read_byte, read_bytes, reader_at}
+use Rattle.vec_literal.proofs.Int8Digits.{digits_shown}
 use Rattle.vec_literal.proofs.Int8Sound.{sign, more_below, minus_byte, end_stage}
 
 -- one byte is read, and then the rest
@@ -195,22 +197,24 @@ pub record Fits (number : List ℕ) (z : ℤ) : Type 0 where
   pub byte : byte_of (record { negative = negative; magnitude = magnitude }) ≡ Some (cast_unsigned w8 z)
 
 number_fits : (t : List ℕ) (z : ℤ) → SpellsNumber t z → IsElement z → Fits t z
-number_fits t z (n, inl h) k =
+number_fits t z (digits, right, inl h) k =
+    let n : ℕ = digits_value 10 digits in
     let few = plain_few n z h.1 k in
     record {
       negative = false;
       magnitude = n;
       few = omega (arith, few);
-      spelled = h.0;
+      spelled = h.0 ∙ digits_shown digits right (omega (arith, few));
       byte = cond-true (nat_le n 127) (Some n) None (le-leb n 127 few) ∙ ap (λ (y : ℤ). Some (cast_unsigned w8 y)) (sym h.1);
     }
-number_fits t z (n, inr h) k =
+number_fits t z (digits, right, inr h) k =
+    let n : ℕ = digits_value 10 digits in
     let few = minus_few n z h.1 k in
     record {
       negative = true;
       magnitude = n;
       few = omega (arith, few);
-      spelled = h.0;
+      spelled = h.0 ∙ ap (λ (x : List ℕ). 45 ∷ x) (digits_shown digits right (omega (arith, few)));
       byte = cond-true (nat_le n 128) (Some ((256 - n) % 256)) None (le-leb n 128 few) ∙ ap (λ (x : ℕ). Some x) (minus_byte n few) ∙ ap (λ (y : ℤ). Some (cast_unsigned w8 y)) (sym h.1);
     }
 

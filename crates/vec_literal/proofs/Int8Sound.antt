@@ -19,6 +19,7 @@ use Rattle.vec_literal.specs.declared.int8.Stage.{Stage}
 use Rattle.vec_literal.specs.declared.int8.Stage.TheVariants.{Start, Opened, Comma, Minus, Digits, Between, Closed}
 use Rattle.vec_literal.specs.declared.int8.Reader.{Reader}
 use Rattle.vec_literal.specs.Int8Reading.{byte_of, more_digits, first_digit, next_digit, number_start, after_element, stage_after, with_byte, ended_in, ended, read_byte, read_bytes, reader_at, is_closed, outcome_of}
+use Rattle.vec_literal.proofs.Int8Digits.{plain_spelled, minus_spelled}
 use Rattle.vec_literal.proofs.Int8Elements.{bare_element, blank_more, Listed, Opens, Awaits, opens_awaits, opens_space, opens_closed, awaits_space, listed_comma, listed_space, listed_closed, list_space}
 
 -- the text of a sign
@@ -133,11 +134,11 @@ fitting : (negative : Bool) (m : ℕ) (t : List ℕ) (b : ℕ) → byte_of (reco
 fitting true m t b h s =
     let k = minus_fits m b h in
     let few : m < 1000 = omega (arith, k.0) in
-    ((m, inr (s few, refl)), minus_element m k.0, sym k.1 ∙ minus_byte m k.0)
+    (subst (λ (x : List ℕ). SpellsNumber x (pos 0 -ℤ pos m)) (sym (s few)) (minus_spelled m (omega (arith, few))), minus_element m k.0, sym k.1 ∙ minus_byte m k.0)
 fitting false m t b h s =
     let k = plain_fits m b h in
     let few : m < 1000 = omega (arith, k.0) in
-    ((m, inl (s few, refl)), plain_element m k.0, sym k.1)
+    (subst (λ (x : List ℕ). SpellsNumber x (pos m)) (sym (s few)) (plain_spelled m (omega (arith, few))), plain_element m k.0, sym k.1)
 
 -- one byte more, at each stage
 

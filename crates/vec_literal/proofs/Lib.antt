@@ -1,4 +1,5 @@
 pub mod Int8Complete
+pub mod Int8Digits
 pub mod Int8Elements
 pub mod Int8Laws
 pub mod Int8Sound

@@ -1,8 +1,10 @@
 -- The literal of an int8 vector: numbers from -128 to 127 in brackets, as `[1, -2]`.
-use Rattle.std.specs.Prelude.{◌≡◌, ◌⊎◌, ℕ, ℤ, pos, negsuc, ◌-ℤ◌, ◌≤ℤ◌, Bool, true, ◌||◌, ◌==◌, List, [], ◌∷◌, ◌++◌, map, All}
-use Rattle.std.specs.Fmt.{decimal, signed_decimal}
+use Rattle.std.specs.Prelude.{◌≡◌, ◌⊎◌, ℕ, ℤ, pos, negsuc, ◌-ℤ◌, ◌≤ℤ◌, Bool, true, false, not, ◌&&◌, ◌||◌, ◌==◌, List, [], ◌∷◌, ◌++◌, map, All}
+use Rattle.std.specs.Char.{is_ascii_digit}
+use Rattle.std.specs.Fmt.{signed_decimal}
 use Rattle.std.specs.Int.{w8, cast_signed, cast_unsigned}
 use Rattle.std.specs.List.{list_all}
+use Rattle.std.specs.Str.Parse.{digits_value}
 
 -- white space of JSON: space, tab, line feed, carriage return
 abbrev pub is_space : ℕ → Bool
@@ -12,9 +14,16 @@ is_space b = b == 32 || b == 9 || b == 10 || b == 13
 abbrev pub IsBlank : List ℕ → Type 0
 IsBlank bytes = list_all is_space bytes ≡ true
 
--- an optional `-` and decimal digits without a leading zero; `-0` is 0
+-- decimal digits without a leading zero, but for `0` itself
+abbrev pub is_digits : List ℕ → Bool
+is_digits [] = false
+is_digits (d ∷ []) = is_ascii_digit d
+is_digits (d ∷ e ∷ ds) = is_ascii_digit d && not (d == 48) && list_all is_ascii_digit (e ∷ ds)
+
+-- an optional `-` and digits; `-0` is 0
 abbrev pub SpellsNumber : List ℕ → ℤ → Type 0
-SpellsNumber bytes z = (n : ℕ) × (((bytes ≡ decimal n) × (z ≡ pos n)) ⊎ ((bytes ≡ 45 ∷ decimal n) × (z ≡ pos 0 -ℤ pos n)))
+SpellsNumber bytes z =
+    (digits : List ℕ) × (is_digits digits ≡ true) × (((bytes ≡ digits) × (z ≡ pos (digits_value 10 digits))) ⊎ ((bytes ≡ 45 ∷ digits) × (z ≡ pos 0 -ℤ pos (digits_value 10 digits))))
 
 -- a number with white space before and after it
 pub record SpellsElement (bytes : List ℕ) (z : ℤ) : Type 0 where

@@ -328,8 +328,14 @@ mod tests {
     /// Forty digits.
     const FORTY: &[u8] = b"[9999999999999999999999999999999999999999]";
 
+    /// Twenty-three digits.
+    const TWENTY_THREE: &[u8] = b"[12345678901234567890123]";
+
+    /// Sixty-four zeros.
+    const ZEROS: &[u8] = b"[0000000000000000000000000000000000000000000000000000000000000000]";
+
     /// Texts, and the vector or the fault that each is to give.
-    const READ: [(&[u8], Result<&[u8], LitFault>); 26] = [
+    const READ: [(&[u8], Result<&[u8], LitFault>); 28] = [
         (b"[]", Ok(&[])),
         (b" [\t] \n", Ok(&[])),
         (b"[ -128 , 127 ]", Ok(&[128, 127])),
@@ -356,6 +362,8 @@ mod tests {
         (b"[-129,-1000,5]", Err(LitFault::Range(0))),
         (b"[5,1280 ,-128,1000]", Err(LitFault::Range(1))),
         (FORTY, Err(LitFault::Range(0))),
+        (TWENTY_THREE, Err(LitFault::Range(0))),
+        (ZEROS, Err(LitFault::Place(2))),
     ];
 
     /// Whether reading the text gives the bytes or the fault.

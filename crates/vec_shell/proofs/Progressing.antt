@@ -79,7 +79,7 @@ byte_added old c b goes_on stands start texts piece so_far =
       sent = so_far.sent;
       stands = stands piece so_far.stands;
       counts = so_far.counts;
-        })
+    })
 
 pub byte_ends : (going : Bool) (old new : Moment) (b : ℕ) → ((piece : List ℕ) → Stands old.cutter piece → ends piece b ≡ true) → AnswersPiece going old new → TakesBytes (b ∷ []) going old new
 byte_ends true old new b ended answers start texts piece so_far =

@@ -88,7 +88,13 @@ impl<'a> Open<'a> {
 }
 
 /// What stands at the open places of the form, if the text from a place on is like the form from a place on.
-fn fill<'a>(form: &[u8], shown_at: usize, text: &'a [u8], at: usize, found: Open<'a>) -> Option<Open<'a>>
+fn fill<'a>(
+    form: &[u8],
+    shown_at: usize,
+    text: &'a [u8],
+    at: usize,
+    found: Open<'a>,
+) -> Option<Open<'a>>
     requires shown_inside { shown_at ≤ length form.now }
     requires inside { at ≤ length text.now }
     ensures filled { option_map places_of result ≡ filled (tokens form.now shown_at) (tokens text.entry.now at) (places_of found.entry) }
@@ -98,10 +104,21 @@ fn fill<'a>(form: &[u8], shown_at: usize, text: &'a [u8], at: usize, found: Open
         Lexed::Found(shown) => match next_token(text, at) {
             Lexed::Found(token) => {
                 let spelling = &text[token.from..token.upto];
-                if !fits(shown.sort, &form[shown.from..shown.upto], token.sort, spelling) {
+                if !fits(
+                    shown.sort,
+                    &form[shown.from..shown.upto],
+                    token.sort,
+                    spelling,
+                ) {
                     return None;
                 }
-                fill(form, shown.upto, text, token.upto, found.with(token.sort, spelling))
+                fill(
+                    form,
+                    shown.upto,
+                    text,
+                    token.upto,
+                    found.with(token.sort, spelling),
+                )
             }
             Lexed::End => None,
             Lexed::Bad(_) => None,
@@ -151,10 +168,12 @@ fn read_create(text: &[u8]) -> Option<Form>
     ensures { ReadsOne (SpellsCreate text.now) result }
 {
     match fill_form(b"CREATE VIRTUAL TABLE v USING vec0(a int8[1])", text) {
-        Some(Open {
-            number: Some(digits),
-            literal: None,
-        }) => create_of(digits),
+        Some(
+            Open {
+                number: Some(digits),
+                literal: None,
+            },
+        ) => create_of(digits),
         _ => None,
     }
 }
@@ -176,10 +195,12 @@ fn read_select(text: &[u8]) -> Option<Form>
     ensures { ReadsOne (SpellsSelect text.now) result }
 {
     match fill_form(b"SELECT rowid, a FROM v", text) {
-        Some(Open {
-            number: None,
-            literal: None,
-        }) => Some(Form::Select),
+        Some(
+            Open {
+                number: None,
+                literal: None,
+            },
+        ) => Some(Form::Select),
         _ => None,
     }
 }
@@ -234,7 +255,12 @@ fn insert_form(sign: Sign) -> &'static [u8]
 }
 
 /// The row of a rowid and a vector, if the rowid has 64 bits and the literal encloses a vector.
-fn insert_of(alloc: Global, sign: Sign, digits: &[u8], literal: &[u8]) -> Result<Option<Form>, Memory>
+fn insert_of(
+    alloc: Global,
+    sign: Sign,
+    digits: &[u8],
+    literal: &[u8],
+) -> Result<Option<Form>, Memory>
     requires { is_number_text digits.now ≡ true }
     ensures { IfOk result (InsertsRow sign digits.now literal.now) }
 {
@@ -255,10 +281,12 @@ fn read_insert(alloc: Global, text: &[u8], sign: Sign) -> Result<Option<Form>, M
     ensures { IfOk result (ReadsOne (SpellsInsert sign text.now)) }
 {
     match fill_form(insert_form(sign), text) {
-        Some(Open {
-            number: Some(digits),
-            literal: Some(literal),
-        }) => insert_of(alloc, sign, digits, literal),
+        Some(
+            Open {
+                number: Some(digits),
+                literal: Some(literal),
+            },
+        ) => insert_of(alloc, sign, digits, literal),
         _ => Ok(None),
     }
 }

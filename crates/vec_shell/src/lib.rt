@@ -11,7 +11,5 @@ mod tally;
 mod top;
 mod writer;
 
-pub use list_session::ListSession;
-pub use session::Session;
-pub use shell::{Ending, Finished, Room, run_session};
+pub use shell::Ending;
 pub use top::run;

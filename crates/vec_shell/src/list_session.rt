@@ -11,8 +11,8 @@ ghost use Rattle.vec_shell.specs.Forms.{create_of, insert_of, select_rows};
 ghost use Rattle.vec_shell.specs.FormsRead.{statement_of};
 ghost use Rattle.vec_shell.specs.Lists.{row_items};
 
-use crate::Session;
 use crate::form::{Form, read_form};
+use crate::session::Session;
 use row_model::{Reply, Row};
 use std::alloc::Global;
 use vec_base::{Bytes, List, Memory, Refusal, Value};
@@ -103,7 +103,7 @@ fn answer_of_rows(alloc: Global, rows: &[Row]) -> Result<List<List<Value>>, Memo
 
 /// The engine of the first three forms of statements: one session, over at most one table in memory.
 #[derive(Drop)]
-pub struct ListSession {
+pub(crate) struct ListSession {
     alloc: Global,
     pub(crate) table: Option<ListTable>,
 }
@@ -112,7 +112,7 @@ impl ListSession {
     ghost use Rattle.vec_shell.specs.ListStates.{list_state};
 
     /// No table yet. It takes no memory.
-    pub fn new(alloc: Global) -> ListSession
+    pub(crate) fn new(alloc: Global) -> ListSession
         ensures { answer_of (first_state no_tables) OpenSession ≡ (Session 1, list_state result) }
     {
         ListSession { alloc, table: None }
@@ -148,6 +148,7 @@ impl ListSession {
             Err(Memory) => Reply::Refused(Refusal::WantOfMemory),
         }
     }
+
     fn select(&self) -> Reply
         ensures { Steps (list_state self.now) (Execute 1 select_rows) result (list_state self.now) }
     {

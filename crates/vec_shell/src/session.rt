@@ -5,7 +5,7 @@ ghost use Rattle.vec_shell.specs.Forms.{Reads};
 use row_model::Reply;
 
 /// What answers statement texts, one after another, in the session with the id 1.
-pub trait Session {
+pub(crate) trait Session {
     /// The state of the machine that it stands for.
     ghost state: { Self → State };
 

@@ -9,7 +9,7 @@ ghost use Rattle.vec_shell.specs.Pieces.{trim};
 ghost use Rattle.vec_shell.specs.Progress.{moment, AnswersPiece, TakesBytes};
 ghost use Rattle.vec_shell.specs.Served.{Served, StatusOf};
 
-use crate::Session;
+use crate::session::Session;
 use crate::cutter::Cutter;
 use crate::output::Output;
 use crate::tally::Tally;
@@ -92,7 +92,12 @@ impl<Z: Session> Shell<Z> {
     }
 
     /// Reads the source to its end, a block at a time, and answers each text.
-    fn serve<S: Source, O: Sink>(&mut self, source: &mut S, sink: &mut O, block: &mut [u8]) -> Ending
+    fn serve<S: Source, O: Sink>(
+        &mut self,
+        source: &mut S,
+        sink: &mut O,
+        block: &mut [u8],
+    ) -> Ending
         requires { 0 < length block.old }
         ensures served { Served result (S.left source.old) (S.left source.new) (S.given source.old) (S.given source.new)
             (moment (Z.state self.old.session) self.old.cutter self.old.tally (O.taken sink.old) (O.faults sink.old))
@@ -131,7 +136,7 @@ fn status_of(ending: Ending, tally: &Tally) -> u8
 
 /// The memory of a run: a block for what is read, and room for what is written.
 #[derive(Drop)]
-pub struct Room {
+pub(crate) struct Room {
     block: Vec<u8>,
     output: Output,
     ghost some: { 0 < length block.items },
@@ -139,7 +144,7 @@ pub struct Room {
 
 impl Room {
     /// Takes the memory.
-    pub fn new(alloc: Global) -> Result<Room, Memory> {
+    pub(crate) fn new(alloc: Global) -> Result<Room, Memory> {
         Ok(Room {
             block: vec![in alloc; 0; BLOCK]?,
             output: Output::with_room(alloc)?,
@@ -149,13 +154,13 @@ impl Room {
 
 /// The status of a run, and the session after it.
 #[derive(Drop)]
-pub struct Finished<Z> {
-    pub status: u8,
-    pub session: Z,
+pub(crate) struct Finished<Z> {
+    pub(crate) status: u8,
+    pub(crate) session: Z,
 }
 
 /// Answers the statements that the source gives, until its end or a fault.
-pub fn run_session<Z: Session, S: Source, O: Sink>(
+pub(crate) fn run_session<Z: Session, S: Source, O: Sink>(
     alloc: Global,
     room: Room,
     session: Z,

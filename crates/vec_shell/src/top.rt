@@ -3,8 +3,9 @@ ghost use Rattle.vec_base.specs.Streams.{Rose};
 ghost use Rattle.vec_shell.specs.Headline.{streams};
 ghost use Rattle.vec_shell.specs.Outcome.{is_shell, LastLine, RanShell};
 
+use crate::list_session::ListSession;
 use crate::output::write_all;
-use crate::{ListSession, Room, run_session};
+use crate::shell::{Room, run_session};
 use std::alloc::Global;
 use vec_base::{Memory, Sink, Source};
 
@@ -26,9 +27,9 @@ pub fn run<S: Source, O: Sink>(alloc: Global, words: &[String], source: &mut S, 
         (source.new ≡ source.old) × LastLine (codes "error words\n") (O.taken sink.old) (O.taken sink.new) (O.faults sink.old) (O.faults sink.new) }
     ensures shell { is_shell (map string_bytes words.now) ≡ true →
         RanShell (streams (S.left source.old) (S.given source.old) (O.taken sink.old))
-            (streams (S.left source.new) (S.given source.new) (O.taken sink.new)) result
+        (streams (S.left source.new) (S.given source.new) (O.taken sink.new)) result
         ⊎ ((result ≡ 7) × (source.new ≡ source.old)
-            × LastLine (codes "error memory\n") (O.taken sink.old) (O.taken sink.new) (O.faults sink.old) (O.faults sink.new)) }
+        × LastLine (codes "error memory\n") (O.taken sink.old) (O.taken sink.new) (O.faults sink.old) (O.faults sink.new)) }
     ensures read { result ≡ 3 → Rose (S.faults source.old) (S.faults source.new) }
     ensures write { result ≡ 4 → Rose (O.faults sink.old) (O.faults sink.new) }
 {

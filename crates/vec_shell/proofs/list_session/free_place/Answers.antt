@@ -21,5 +21,5 @@ returns-in-Err-clause-free c =
 pub returns-in-Err-clause-place : goal.returns-in-Err-clause-place
 returns-in-Err-clause-place c = λ row same.
     let gap = gap_found c.args.rowid.now c.args.rows.now c.in-Err.at
-        (c.in-Err.ensures.position (compared c.args.rowid.now) (always_returns_same _ _ _ (λ a r f called. search rules)) (rising_searchable c.args.rowid.now c.args.rows.now c.requires)) in
+    (c.in-Err.ensures.position (compared c.args.rowid.now) (always_returns_same _ _ _ (λ a r f called. search rules)) (rising_searchable c.args.rowid.now c.args.rows.now c.requires)) in
     sym (with_row-insert row c.args.rows.now c.in-Err.at c.in-Err.ensures.bound (subst (λ (z : ℤ). IsGap z c.args.rows.now c.in-Err.at) (sym same) gap))

@@ -1,0 +1,97 @@
+ghost use Rattle.std.specs.Prelude.{◌≡◌, ◌↔◌, ◌+◌, ◌<◌, ◌≤◌, ◌^◌, length, IfOk, OnOk, OnErr, None};
+ghost use Rattle.std.specs.Io.KnownBytes.{ReadConsumes};
+ghost use Rattle.vec_base.specs.declared.source.Got.TheVariants.{Took, End, Failed};
+ghost use Rattle.vec_base.specs.Streams.{Rose};
+
+use std::io::{self, Read};
+use vec_base::{Got, Source};
+
+/// The most bytes that are given.
+const MOST: u64 = 1 << 40;
+
+/// The bytes of a reader, at most the first 2^40. It holds none itself. A read past those fails.
+#[derive(Drop)]
+pub(crate) struct StdSource<R: Read + Drop> {
+    reader: R,
+    given: u64,
+    faults: u64,
+    ghost most: { given ≤ 2 ^ 40 },
+}
+
+impl<R: Read + Drop> StdSource<R> {
+    pub(crate) fn new(reader: R) -> StdSource<R>
+        ensures reader { result.reader ≡ reader }
+        ensures given { result.given ≡ 0 }
+        ensures faults { result.faults ≡ 0 }
+    {
+        StdSource {
+            reader,
+            given: 0,
+            faults: 0,
+        }
+    }
+
+    /// Reads once, straight into the room, and no more than may still be given.
+    fn read_once(&mut self, room: &mut [u8]) -> io::Result<usize>
+        requires { self.old.given < 2 ^ 40 }
+        ensures within { IfOk result (λ n. (n ≤ length room.new) × (self.old.given + n ≤ 2 ^ 40)) }
+        ensures bytes { ReadConsumes (R.remaining self.old.reader) (R.remaining self.new.reader) result room.new }
+        ensures given { self.new.given ≡ self.old.given }
+        ensures faults { self.new.faults ≡ self.old.faults }
+    {
+        let left = MOST - self.given;
+        let asked = room.len().min(left as usize);
+        self.reader.read(&mut room[..asked])
+    }
+
+    /// Turns the reader's outcome into an answer, and counts the bytes or the failure.
+    fn answer(&mut self, outcome: io::Result<usize>) -> Got
+        requires { IfOk outcome (λ n. self.old.given + n ≤ 2 ^ 40) }
+        ensures took { IfOk outcome (λ n. 0 < n → result ≡ Took n) }
+        ensures end { (result ≡ End) ↔ (outcome ≡ Ok 0) }
+        ensures failed { OnErr outcome (result ≡ Failed) }
+        ensures given { IfOk outcome (λ n. self.new.given ≡ self.old.given + n) }
+        ensures kept { OnErr outcome (self.new.given ≡ self.old.given) }
+        ensures faults { OnErr outcome (Rose self.old.faults self.new.faults) }
+        ensures same { OnOk outcome (self.new.faults ≡ self.old.faults) }
+        ensures later { self.old.faults ≤ self.new.faults }
+    {
+        match outcome {
+            Ok(0) => Got::End,
+            Ok(count) => {
+                self.given += count as u64;
+                Got::Took(count)
+            }
+            Err(_) => self.fail(),
+        }
+    }
+
+    fn fail(&mut self) -> Got
+        ensures failed { result ≡ Failed }
+        ensures given { self.new.given ≡ self.old.given }
+        ensures faults { Rose self.old.faults self.new.faults }
+        ensures later { self.old.faults ≤ self.new.faults }
+    {
+        self.faults = self.faults.saturating_add(1);
+        Got::Failed
+    }
+}
+
+impl<R: Read + Drop> Source for StdSource<R> {
+    ghost left = { λ _. None };
+
+    ghost given = { λ s. s.given };
+
+    ghost faults = { λ s. s.faults };
+
+    fn read(&mut self, room: &mut [u8]) -> Got {
+        if self.given == MOST {
+            return self.fail();
+        }
+        let outcome = self.read_once(room);
+        self.answer(outcome)
+    }
+}
+
+#[cfg(test)]
+mod tests;
