@@ -1,12 +1,12 @@
 -- A text literal whose text has no quote encloses just its bytes.
-use Rattle.std.proofs.Common.{◌≡◌, ℕ, Bool, true, false, not, ◌==◌, cond, List, [], ◌∷◌, ◌++◌, Option, Some, None, Ok, Err, refl, sym, ap, ◌∙◌, subst}
-use Rattle.std.proofs.lemmas.Bool.{and_parts, cond-true, cond-false, eqb-true}
+use Rattle.std.proofs.Common.{◌≡◌, ℕ, Bool, true, false, not, ◌==◌, cond, List, [], ◌∷◌, ◌++◌, Option, Some, None, refl, sym, ap, ◌∙◌, subst}
+use Rattle.std.proofs.lemmas.Bool.{and_parts, cond-false, eqb-true}
 use Rattle.std.proofs.lemmas.List.{append_cancel_right}
 use Rattle.std.specs.List.{list_all}
 use Rattle.std.specs.Option.{option_map}
 use Rattle.vec_literal.specs.Int8.{SpellsInt8}
 use Rattle.vec_literal.specs.Tokens.{unquoted, enclosed}
-use Rattle.vec_literal.proofs.Int8Laws.{no_quote, one_vector}
+use Rattle.vec_literal.proofs.Int8Laws.{no_quote}
 
 abbrev pub is_plain : List ℕ → Bool
 is_plain bytes = list_all (λ b. not (b == 39)) bytes

@@ -1,5 +1,5 @@
 -- A text beyond the limit is read as its kept bytes are: neither spells a statement.
-use Rattle.std.proofs.Common.{◌≡◌, ℕ, ◌+◌, ◌≤◌, ◌<◌, List, length, take, Ok, Err, inl, inr, sym, subst, arith}
+use Rattle.std.proofs.Common.{◌≡◌, ℕ, ◌+◌, ◌≤◌, List, length, take, Ok, Err, inl, inr, sym, subst, arith}
 use Rattle.std.proofs.lemmas.List.{take_all, length-take}
 use Rattle.std.specs.declared.result.Result.{Result}
 use Rattle.vec_base.specs.declared.refusal.Refusal.{Refusal}

@@ -1,8 +1,7 @@
 -- A run goes on by a piece, and by bytes.
-use Rattle.std.proofs.Common.{◌≡◌, ◌≢◌, ℕ, ◌≤◌, Bool, true, false, MatchBool, List, [], ◌∷◌, ◌++◌, if◌then◌else◌, refl, sym, ap, ◌∙◌, subst, arith, append_assoc}
+use Rattle.std.proofs.Common.{◌≡◌, ◌≢◌, ℕ, Bool, true, false, MatchBool, List, [], ◌∷◌, ◌++◌, if◌then◌else◌, refl, sym, ap, ◌∙◌, subst, arith, append_assoc}
 use Rattle.std.proofs.lemmas.List.{append-nil}
 use Rattle.std.proofs.lemmas.Grind.{flat_map-append}
-use Rattle.vec_base.specs.Streams.{Rose, Gains}
 use Rattle.vec_base.proofs.StreamLaws.{gains-append}
 use Rattle.row_model.specs.declared.request.Reply.{Reply}
 use Rattle.row_model.specs.Shelled.{Answers, AnswersAll}
@@ -13,7 +12,7 @@ use Rattle.vec_shell.specs.Lines.{lines, lines_of}
 use Rattle.vec_shell.specs.Parts.{Stands, Counts}
 use Rattle.vec_shell.specs.Pieces.{trim, add_text, texts_of, ends, ended_from, rest_from}
 use Rattle.vec_shell.specs.Progress.{Moment, Progress, Stopped, AnswersPiece, TakesBytes}
-use Rattle.vec_shell.specs.Sending.{IsFront, Sent}
+use Rattle.vec_shell.specs.Sending.{Sent}
 use Rattle.vec_shell.proofs.PieceLaws.{ended-append, rest-append, texts-append}
 use Rattle.vec_shell.proofs.SentLaws.{sent-append}
 

@@ -12,7 +12,7 @@ use Rattle.vec_shell.specs.declared.form.Form.{Form}
 use Rattle.vec_shell.specs.declared.form.Sign.{Sign}
 use Rattle.vec_shell.specs.declared.form.Sign.TheVariants.{Unsigned, Plus, Minus}
 use Rattle.vec_shell.specs.Forms.{Open, Reads, SpellsCreate, SpellsInsert, SpellsSelect, filled_form, insert_form, signed}
-use Rattle.vec_shell.specs.FormsRead.{InsertsRow, ReadsOne, read_as, statement_of}
+use Rattle.vec_shell.specs.FormsRead.{InsertsRow, ReadsOne, read_as}
 
 abbrev or_none : Option (List ℕ) → List ℕ
 or_none None = []

@@ -13,10 +13,10 @@ use Rattle.vec_shell.specs.declared.shell.Ending.TheVariants.{Whole, ReadFault, 
 use Rattle.vec_shell.specs.Headline.{Ran, streams}
 use Rattle.vec_shell.specs.Lines.{lines_of}
 use Rattle.vec_shell.specs.Parts.{Stands, Counts}
-use Rattle.vec_shell.specs.Pieces.{texts_of, ended_from, rest_from, ended_of, rest_of, pieces_of}
+use Rattle.vec_shell.specs.Pieces.{texts_of, ended_of, rest_of, pieces_of}
 use Rattle.vec_shell.specs.Progress.{Moment, moment, Progress, AnswersPiece, TakesBytes}
-use Rattle.vec_shell.specs.Served.{Served, AtEnd, StatusOf}
-use Rattle.vec_shell.specs.Statuses.{status_of, is_refused, is_faulted, is_starved}
+use Rattle.vec_shell.specs.Served.{Served, StatusOf}
+use Rattle.vec_shell.specs.Statuses.{is_refused, is_faulted, is_starved}
 use Rattle.vec_shell.proofs.PieceLaws.{texts-append}
 use Rattle.vec_shell.proofs.Progressing.{takes_more}
 use Rattle.vec_shell.proofs.SentLaws.{sent_nothing}

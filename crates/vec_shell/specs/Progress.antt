@@ -1,5 +1,5 @@
 -- How far a run of the shell has come.
-use Rattle.std.specs.Prelude.{◌≡◌, ℕ, Bool, true, MatchBool, List, [], ◌∷◌, ◌++◌}
+use Rattle.std.specs.Prelude.{ℕ, Bool, true, MatchBool, List, [], ◌∷◌, ◌++◌}
 use Rattle.std.specs.declared.option.Option.{Option}
 use Rattle.vec_base.specs.Streams.{Rose, Gains}
 use Rattle.row_model.specs.declared.request.Reply.{Reply}

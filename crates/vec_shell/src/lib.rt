@@ -13,3 +13,6 @@ mod writer;
 
 pub use shell::Ending;
 pub use top::run;
+
+#[cfg(test)]
+mod tests;

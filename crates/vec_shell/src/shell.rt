@@ -9,9 +9,9 @@ ghost use Rattle.vec_shell.specs.Pieces.{trim};
 ghost use Rattle.vec_shell.specs.Progress.{moment, AnswersPiece, TakesBytes};
 ghost use Rattle.vec_shell.specs.Served.{Served, StatusOf};
 
-use crate::session::Session;
 use crate::cutter::Cutter;
 use crate::output::Output;
+use crate::session::Session;
 use crate::tally::Tally;
 use crate::writer::write_reply;
 use row_model::Reply;

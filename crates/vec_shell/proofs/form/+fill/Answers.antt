@@ -1,4 +1,3 @@
-use Rattle.std.proofs.Common.{◌≡◌}
 use Rattle.vec_shell.specs.FormsRead.{places_of}
 use Rattle.vec_shell.proofs.Opens.{told_after}
 use Rattle.vec_shell.proofs.form.+fill.Goals as goal

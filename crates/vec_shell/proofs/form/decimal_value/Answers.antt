@@ -1,4 +1,3 @@
-use Rattle.std.proofs.Common.{◌≡◌}
 use Rattle.vec_shell.proofs.Numbers.{number_utf8, parse_fails, parse_gives}
 use Rattle.vec_shell.proofs.form.decimal_value.Goals as goal
 

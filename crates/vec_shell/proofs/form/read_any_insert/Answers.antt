@@ -1,4 +1,3 @@
-use Rattle.std.proofs.Common.{◌≡◌}
 use Rattle.vec_shell.proofs.Reading.{any_insert_read}
 use Rattle.vec_shell.proofs.form.read_any_insert.Goals as goal
 

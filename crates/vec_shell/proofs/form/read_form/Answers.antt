@@ -1,4 +1,3 @@
-use Rattle.std.proofs.Common.{◌≡◌}
 use Rattle.vec_shell.proofs.Reading.{form_read}
 use Rattle.vec_shell.proofs.form.read_form.Goals as goal
 

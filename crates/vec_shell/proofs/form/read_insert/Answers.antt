@@ -1,4 +1,4 @@
-use Rattle.std.proofs.Common.{◌≡◌, Some, rules, sym}
+use Rattle.std.proofs.Common.{◌≡◌, Some, rules}
 use Rattle.vec_shell.specs.Forms.{filled_form, insert_form}
 use Rattle.vec_shell.proofs.Reading.{insert_read}
 use Rattle.vec_shell.proofs.form.read_insert.Goals as goal

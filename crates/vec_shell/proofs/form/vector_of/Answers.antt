@@ -1,4 +1,3 @@
-use Rattle.std.proofs.Common.{◌≡◌}
 use Rattle.vec_literal.proofs.Int8Laws.{no_quote}
 use Rattle.vec_shell.proofs.Enclosing.{enclosed_plain, encloses_vector, inside_spelled}
 use Rattle.vec_shell.proofs.form.vector_of.Goals as goal

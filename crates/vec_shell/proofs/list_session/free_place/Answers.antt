@@ -1,4 +1,4 @@
-use Rattle.std.proofs.Common.{◌≡◌, ℤ, pos, [], rules, sym, subst}
+use Rattle.std.proofs.Common.{ℤ, pos, [], rules, sym, subst}
 use Rattle.std.proofs.lemmas.Fn.{always_returns_same}
 use Rattle.row_model.specs.declared.row.Row.{Row}
 use Rattle.row_model.proofs.RowLaws.{compared, rising_searchable, has_rowid_at, IsGap, gap_found, no_rowid_at, with_row-insert}

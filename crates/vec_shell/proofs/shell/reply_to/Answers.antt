@@ -1,4 +1,4 @@
-use Rattle.std.proofs.Common.{◌≡◌, List, ℕ, subst, ◌∙◌}
+use Rattle.std.proofs.Common.{List, ℕ, subst, ◌∙◌}
 use Rattle.row_model.specs.Shelled.{Answers}
 use Rattle.vec_shell.specs.Forms.{Reads}
 use Rattle.vec_shell.specs.Pieces.{trim}

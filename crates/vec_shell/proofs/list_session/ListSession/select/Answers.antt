@@ -1,4 +1,4 @@
-use Rattle.std.proofs.Common.{◌≡◌, inl, refl}
+use Rattle.std.proofs.Common.{inl, refl}
 use Rattle.vec_shell.proofs.list_session.ListSession.select.Goals as goal
 
 pub returns-in-Ok : goal.returns-in-Ok

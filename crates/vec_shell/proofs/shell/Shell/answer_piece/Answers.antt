@@ -1,4 +1,3 @@
-use Rattle.std.proofs.Common.{◌≡◌}
 use Rattle.vec_shell.proofs.Progressing.{piece_blank, piece_answered}
 use Rattle.vec_shell.proofs.shell.Shell.answer_piece.Goals as goal
 
