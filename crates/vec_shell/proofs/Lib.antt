@@ -1,3 +1,4 @@
+pub mod Causes
 pub mod Enclosing
 pub mod Handing
 pub mod Kept

@@ -6,10 +6,12 @@ use Rattle.std.specs.declared.option.Option.{Option}
 use Rattle.vec_base.specs.Streams.{Rose, Loses, NoneLeft}
 use Rattle.vec_base.proofs.StreamLaws.{loses-append}
 use Rattle.row_model.specs.declared.state.State.{State}
+use Rattle.row_model.specs.Shelled.{AnswersAll}
 use Rattle.vec_shell.specs.declared.cutter.Cutter.{Cutter}
 use Rattle.vec_shell.specs.declared.tally.Tally.{Tally}
 use Rattle.vec_shell.specs.declared.shell.Ending.{Ending}
 use Rattle.vec_shell.specs.declared.shell.Ending.TheVariants.{Whole, ReadFault, WriteFault}
+use Rattle.vec_shell.specs.Forms.{Reads}
 use Rattle.vec_shell.specs.Headline.{Ran, streams}
 use Rattle.vec_shell.specs.Lines.{lines_of}
 use Rattle.vec_shell.specs.Parts.{Stands, Counts}
@@ -115,7 +117,7 @@ begun start base faults cutter tally stands counts =
 pub ran : (ending : Ending) (left left' : Option (List ℕ)) (given given' status : ℕ) (old new : Moment) →
     Served ending left left' given given' old new → Progress old [] [] old →
     StatusOf ending new.tally status →
-    Ran old.state new.state (streams left given old.taken) (streams left' given' new.taken) status
+    Ran (AnswersAll Reads 1 old.state) new.state (streams left given old.taken) (streams left' given' new.taken) status
 ran Whole left left' given given' status old new served start tells =
     let end = served.stands old start in
     record {

@@ -4,10 +4,8 @@ use Rattle.std.specs.declared.option.Option.{Option}
 use Rattle.vec_base.specs.Streams.{Loses, Gains, NoneLeft}
 use Rattle.row_model.specs.declared.request.Reply.{Reply}
 use Rattle.row_model.specs.declared.state.State.{State}
-use Rattle.row_model.specs.Shelled.{AnswersAll}
 use Rattle.vec_shell.specs.declared.shell.Ending.{Ending}
 use Rattle.vec_shell.specs.declared.shell.Ending.TheVariants.{Whole, ReadFault, WriteFault}
-use Rattle.vec_shell.specs.Forms.{Reads}
 use Rattle.vec_shell.specs.Lines.{lines, lines_of}
 use Rattle.vec_shell.specs.Pieces.{pieces_of, ended_of, texts_of}
 use Rattle.vec_shell.specs.Sending.{IsFront, IsProperFront}
@@ -46,9 +44,9 @@ LeavesNone Whole left = NoneLeft left
 LeavesNone ReadFault left = Unit {0}
 LeavesNone WriteFault left = Unit {0}
 
--- The run of a session from one state to another: the bytes that the source gave, the texts that were answered, their
+-- A run whose texts and replies lead to a last state: the bytes that the source gave, the texts that were answered, their
 -- replies, what was written, and the status.
-pub record Ran (first last : State) (old new : Streams) (status : ℕ) : Type 0 where
+pub record Ran (Run : List (List ℕ) → List Reply → State → Type 0) (last : State) (old new : Streams) (status : ℕ) : Type 0 where
   pub ending : Ending
   pub bytes : List ℕ
   pub texts : List (List ℕ)
@@ -57,7 +55,7 @@ pub record Ran (first last : State) (old new : Streams) (status : ℕ) : Type 0 
   pub read : Loses old.left bytes new.left
   pub count : new.given ≡ old.given + length bytes
   pub to_end : LeavesNone ending new.left
-  pub run : AnswersAll Reads 1 first texts replies last
+  pub run : Run texts replies last
   pub ended : Ended ending bytes texts replies out
   pub written : Gains old.taken out new.taken
   pub gives : status ≡ status_at ending replies

@@ -1,13 +1,17 @@
 -- What the program does, whatever its words are.
-use Rattle.std.specs.Prelude.{◌≡◌, ◌⊎◌, ℕ, Bool, false, List, [], ◌∷◌, codes, bytes_eq}
+use Rattle.std.specs.Prelude.{◌≡◌, ◌⊎◌, ℕ, Bool, true, false, List, [], ◌∷◌, codes, bytes_eq}
+use Rattle.std.specs.List.{list_any}
 use Rattle.std.specs.declared.option.Option.{Option}
 use Rattle.vec_base.specs.Streams.{Rose, Gains}
 use Rattle.row_model.specs.declared.state.State.{State}
-use Rattle.row_model.specs.declared.request.Request.TheVariants.{OpenSession}
-use Rattle.row_model.specs.declared.request.Reply.TheVariants.{Session}
-use Rattle.row_model.specs.Machine.{first_state, no_tables, answer_of}
+use Rattle.row_model.specs.declared.request.Reply.{Reply}
+use Rattle.row_model.specs.Machine.{no_tables}
+use Rattle.row_model.specs.Shelled.{Shelled}
+use Rattle.vec_shell.specs.declared.shell.Ending.TheVariants.{Whole}
+use Rattle.vec_shell.specs.Forms.{Reads}
 use Rattle.vec_shell.specs.Headline.{Streams, Ran}
 use Rattle.vec_shell.specs.Sending.{IsFront}
+use Rattle.vec_shell.specs.Statuses.{is_refused, is_faulted, is_starved}
 
 -- the words are exactly `shell`
 abbrev pub is_shell : List (List ℕ) → Bool
@@ -20,7 +24,24 @@ abbrev pub LastLine : List ℕ → Option (List ℕ) → Option (List ℕ) → �
 LastLine line taken taken' faults faults' =
     Gains taken line taken' ⊎ ((front : List ℕ) × IsFront front line × Gains taken front taken' × Rose faults faults')
 
--- One session is opened over no tables, and the run goes from there to some last state.
-abbrev pub RanShell : Streams → Streams → ℕ → Type 0
-RanShell old new status =
-    (start last : State) × (answer_of (first_state no_tables) OpenSession ≡ (Session 1, start)) × Ran start last old new status
+-- A run of the shell: one session is opened over no tables, and its texts get these replies.
+abbrev pub RanShell : State → Streams → Streams → ℕ → Type 0
+RanShell last old new status = Ran (Shelled Reads no_tables) last old new status
+
+-- a run of the shell that came to the end of its input, with such replies
+abbrev pub RanWhole : (List Reply → Type 0) → Streams → Streams → ℕ → Type 0
+RanWhole Such old new status = (last : State) × (ran : RanShell last old new status) × (ran.ending ≡ Whole) × Such ran.replies
+
+-- some reply is a refusal 1 to 23
+abbrev pub SomeRefused : List Reply → Type 0
+SomeRefused replies = list_any is_refused replies ≡ true
+
+-- some reply is refusal 25, and none is a refusal 1 to 24
+abbrev pub OnlyStarved : List Reply → Type 0
+OnlyStarved replies =
+    (list_any is_refused replies ≡ false) × (list_any is_faulted replies ≡ false) × (list_any is_starved replies ≡ true)
+
+-- no reply is a refusal
+abbrev pub NoneRefused : List Reply → Type 0
+NoneRefused replies =
+    (list_any is_refused replies ≡ false) × (list_any is_faulted replies ≡ false) × (list_any is_starved replies ≡ false)

@@ -1,6 +1,6 @@
 ghost use Rattle.std.specs.Prelude.{◌≡◌, ◌≢◌, ℕ, ◌<◌, List, [], ◌∷◌, length};
 ghost use Rattle.vec_base.specs.Streams.{Rose};
-ghost use Rattle.row_model.specs.Shelled.{Answers};
+ghost use Rattle.row_model.specs.Shelled.{Answers, AnswersAll};
 ghost use Rattle.vec_shell.specs.declared.shell.Ending.TheVariants.{ReadFault};
 ghost use Rattle.vec_shell.specs.Forms.{Reads};
 ghost use Rattle.vec_shell.specs.Headline.{Ran, streams};
@@ -167,7 +167,7 @@ pub(crate) fn run_session<Z: Session, S: Source, O: Sink>(
     source: &mut S,
     sink: &mut O,
 ) -> Finished<Z>
-    ensures ran { Ran (Z.state session) (Z.state result.session)
+    ensures ran { Ran (AnswersAll Reads 1 (Z.state session)) (Z.state result.session)
         (streams (S.left source.old) (S.given source.old) (O.taken sink.old))
         (streams (S.left source.new) (S.given source.new) (O.taken sink.new)) result.status }
     ensures read { result.status ≡ 3 → Rose (S.faults source.old) (S.faults source.new) }

@@ -1,7 +1,8 @@
 ghost use Rattle.std.specs.Prelude.{◌≡◌, ◌⊎◌, ◌↔◌, true, false, map, codes, string_bytes};
 ghost use Rattle.vec_base.specs.Streams.{Rose};
 ghost use Rattle.vec_shell.specs.Headline.{streams};
-ghost use Rattle.vec_shell.specs.Outcome.{is_shell, LastLine, RanShell};
+ghost use Rattle.row_model.specs.declared.state.State.{State};
+ghost use Rattle.vec_shell.specs.Outcome.{is_shell, LastLine, NoneRefused, OnlyStarved, RanShell, RanWhole, SomeRefused};
 
 use crate::list_session::ListSession;
 use crate::output::write_all;
@@ -23,15 +24,28 @@ fn is_shell(words: &[String]) -> bool
 /// With the one word `shell` it reads statements from the source to its end and writes their replies to the sink.
 pub fn run<S: Source, O: Sink>(alloc: Global, words: &[String], source: &mut S, sink: &mut O) -> u8
     ensures words { (result ≡ 1) ↔ (is_shell (map string_bytes words.now) ≡ false) }
-    ensures refused { is_shell (map string_bytes words.now) ≡ false →
-        (source.new ≡ source.old) × LastLine (codes "error words\n") (O.taken sink.old) (O.taken sink.new) (O.faults sink.old) (O.faults sink.new) }
+    ensures words_refused { is_shell (map string_bytes words.now) ≡ false → (source.new ≡ source.old)
+        × LastLine (codes "error words\n") (O.taken sink.old) (O.taken sink.new) (O.faults sink.old) (O.faults sink.new) }
+
+    // The run itself, or want of memory before the source is touched.
     ensures shell { is_shell (map string_bytes words.now) ≡ true →
-        RanShell (streams (S.left source.old) (S.given source.old) (O.taken sink.old))
-        (streams (S.left source.new) (S.given source.new) (O.taken sink.new)) result
+        ((last : State) × RanShell last (streams (S.left source.old) (S.given source.old) (O.taken sink.old))
+        (streams (S.left source.new) (S.given source.new) (O.taken sink.new)) result)
         ⊎ ((result ≡ 7) × (source.new ≡ source.old)
         × LastLine (codes "error memory\n") (O.taken sink.old) (O.taken sink.new) (O.faults sink.old) (O.faults sink.new)) }
-    ensures read { result ≡ 3 → Rose (S.faults source.old) (S.faults source.new) }
-    ensures write { result ≡ 4 → Rose (O.faults sink.old) (O.faults sink.new) }
+
+    // What each status is caused by.
+    ensures none_refused { result ≡ 0 → RanWhole NoneRefused (streams (S.left source.old) (S.given source.old) (O.taken sink.old))
+        (streams (S.left source.new) (S.given source.new) (O.taken sink.new)) result }
+    ensures some_refused { result ≡ 2 → RanWhole SomeRefused (streams (S.left source.old) (S.given source.old) (O.taken sink.old))
+        (streams (S.left source.new) (S.given source.new) (O.taken sink.new)) result }
+    ensures read_failed { result ≡ 3 → Rose (S.faults source.old) (S.faults source.new) }
+    ensures write_failed { result ≡ 4 → Rose (O.faults sink.old) (O.faults sink.new) }
+    ensures starved { result ≡ 7 →
+        RanWhole OnlyStarved (streams (S.left source.old) (S.given source.old) (O.taken sink.old))
+        (streams (S.left source.new) (S.given source.new) (O.taken sink.new)) result
+        ⊎ ((source.new ≡ source.old)
+        × LastLine (codes "error memory\n") (O.taken sink.old) (O.taken sink.new) (O.faults sink.old) (O.faults sink.new)) }
 {
     if !is_shell(words) {
         let _ = write_all(sink, b"error words\n");
