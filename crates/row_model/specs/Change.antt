@@ -1,14 +1,14 @@
 -- What CREATE and INSERT make of the tables.
-use Rattle.std.specs.Prelude.{ℕ, ◌+◌, ◌-◌, ℤ, pos, ◌+ℤ◌, int_lt, ◌==◌, nat_lt, if◌then◌else◌, List, [], ◌∷◌, map, slice_set, bytes_eq, find, Some, None, Ok, Err}
+use Rattle.std.specs.Prelude.{ℕ, ◌+◌, ◌-◌, ℤ, pos, ◌+ℤ◌, int_lt, not, ◌==◌, nat_lt, if◌then◌else◌, List, [], ◌∷◌, ◌++◌, map, slice_set, bytes_eq, find, Some, None, Ok, Err}
 use Rattle.std.specs.declared.option.Option.{Option}
 use Rattle.std.specs.declared.result.Result.{Result}
 use Rattle.vec_base.specs.declared.refusal.Refusal.{Refusal}
-use Rattle.vec_base.specs.declared.refusal.Refusal.TheVariants.{Duplicate}
+use Rattle.vec_base.specs.declared.refusal.Refusal.TheVariants.{Duplicate, RowidsSpent}
 use Rattle.vec_base.specs.declared.value.Value.{Value}
 use Rattle.vec_base.specs.declared.value.Value.TheVariants.{Null, Int, Text, Blob, Int8, Bits}
 use Rattle.row_model.specs.declared.schema.Column.{Column}
 use Rattle.row_model.specs.declared.schema.Place.{Place}
-use Rattle.row_model.specs.declared.schema.Place.TheVariants.{Unknown, Rowid, Declared}
+use Rattle.row_model.specs.declared.schema.Place.TheVariants.{Unknown, Rowid, Declared, Count, Distance}
 use Rattle.row_model.specs.declared.schema.Schema.{Schema}
 use Rattle.row_model.specs.declared.row.Row.{Row}
 use Rattle.row_model.specs.declared.row.Table.{Table}
@@ -23,6 +23,8 @@ use Rattle.row_model.specs.Rows.{has_rowid, with_row}
 abbrev pub put_at : Place → Value → List Value → List Value
 put_at Unknown value values = values
 put_at Rowid value values = values
+put_at Count value values = values
+put_at Distance value values = values
 put_at (Declared number kind) value values = slice_set values (number - 1) value
 
 -- the values with each given one at the place of its column
@@ -45,6 +47,8 @@ abbrev pub rowid_at : Place → Value → Option ℤ
 rowid_at Unknown value = None
 rowid_at Rowid value = int_of value
 rowid_at (Declared number kind) value = None
+rowid_at Count value = None
+rowid_at Distance value = None
 
 abbrev pub or_else : Option ℤ → Option ℤ → Option ℤ
 or_else None later = later
@@ -56,9 +60,13 @@ given_rowid columns [] given = None
 given_rowid columns (name ∷ names) [] = None
 given_rowid columns (name ∷ names) (value ∷ given) = or_else (rowid_at (place_of columns name) value) (given_rowid columns names given)
 
--- the rowid that is given, else the number above the table's top
+-- the largest rowid
+abbrev pub last_number : ℤ
+last_number = pos 9223372036854775807
+
+-- the rowid that is given, else the number above the table's top; where there is none the row is refused
 abbrev pub assigned : ℤ → Option ℤ → ℤ
-assigned top None = top +ℤ pos 1
+assigned top None = if int_lt top last_number then top +ℤ pos 1 else top
 assigned top (Some rowid) = rowid
 
 abbrev pub larger : ℤ → ℤ → ℤ
@@ -73,9 +81,19 @@ new_row table names given = record {
 
 -- ---- the rows of an INSERT, one after another
 
--- what refuses the row: its rowid is there
-abbrev pub row_refusals : Table → Row → List Refusal
-row_refusals table row = when (has_rowid row.rowid table.rows) (Duplicate row.rowid)
+-- the rowid that is given is there
+abbrev pub taken : List Row → Option ℤ → List Refusal
+taken rows None = []
+taken rows (Some rowid) = when (has_rowid rowid rows) (Duplicate rowid)
+
+-- a rowid is to be assigned, and none is left
+abbrev pub spent : ℤ → Option ℤ → List Refusal
+spent top None = when (not (int_lt top last_number)) RowidsSpent
+spent top (Some rowid) = []
+
+-- what refuses a row, in order
+abbrev pub row_refusals : Table → Option ℤ → List Refusal
+row_refusals table rowid = taken table.rows rowid ++ spent table.top rowid
 
 abbrev pub with_new_row : Table → Row → Table
 with_new_row table row = record table { rows = with_row row table.rows; top = larger table.top row.rowid }
@@ -89,7 +107,7 @@ abbrev pub grown : List (List ℕ) → Table → List (List Value) → Result Ta
 grown names table [] = Ok table
 grown names table (given ∷ more) =
     let row = new_row table names given in
-    or_grown (first (row_refusals table row)) (grown names (with_new_row table row) more)
+    or_grown (first (row_refusals table (given_rowid table.schema.columns names given))) (grown names (with_new_row table row) more)
 
 -- the rowid of the last row
 abbrev pub last_rowid : List (List ℕ) → ℤ → Table → List (List Value) → ℤ

@@ -1,18 +1,22 @@
 -- What refuses a statement by its values and the schema alone.
-use Rattle.std.specs.Prelude.{ℕ, not, ◌==◌, List, [], ◌∷◌, ◌++◌, length, min}
+use Rattle.std.specs.Prelude.{ℕ, pos, int_le, not, ◌&&◌, ◌==◌, if◌then◌else◌, List, [], ◌∷◌, ◌++◌, length, min}
 use Rattle.std.specs.List.{flat_map}
 use Rattle.std.specs.declared.option.Option.{Option}
 use Rattle.vec_base.specs.declared.refusal.Refusal.{Refusal}
-use Rattle.vec_base.specs.declared.refusal.Refusal.TheVariants.{VectorShape}
+use Rattle.vec_base.specs.declared.refusal.Refusal.TheVariants.{VectorShape, KRange}
 use Rattle.vec_base.specs.declared.value.Value.{Value}
 use Rattle.vec_base.specs.declared.value.Value.TheVariants.{Null, Int, Text, Blob, Int8, Bits}
 use Rattle.row_model.specs.declared.schema.Column.{Column}
 use Rattle.row_model.specs.declared.schema.Kind.{Kind}
 use Rattle.row_model.specs.declared.schema.Kind.TheVariants.{Int8Vector}
 use Rattle.row_model.specs.declared.schema.Place.{Place}
-use Rattle.row_model.specs.declared.schema.Place.TheVariants.{Unknown, Rowid, Declared}
+use Rattle.row_model.specs.declared.schema.Place.TheVariants.{Unknown, Rowid, Declared, Count, Distance}
 use Rattle.row_model.specs.declared.statement.Insert.{Insert}
-use Rattle.row_model.specs.Columns.{place_of}
+use Rattle.row_model.specs.declared.statement.Constraint.{Constraint}
+use Rattle.row_model.specs.declared.statement.Select.{Select}
+use Rattle.row_model.specs.declared.statement.Test.{Test}
+use Rattle.row_model.specs.declared.statement.Test.TheVariants.{Compare, Match}
+use Rattle.row_model.specs.Columns.{place_of, is_count}
 use Rattle.row_model.specs.Lists.{when, least}
 
 -- the number of a vector's dimensions in a refusal: 4,294,967,295 stands for every greater number too
@@ -36,6 +40,8 @@ abbrev pub value_faults : Place → Value → List Refusal
 value_faults Unknown value = []
 value_faults Rowid value = []
 value_faults (Declared number kind) value = kind_faults number kind value
+value_faults Count value = []
+value_faults Distance value = []
 
 -- what refuses a row of values for the named columns, in the order of the text
 abbrev pub row_faults : List Column → List (List ℕ) → List Value → List Refusal
@@ -46,3 +52,27 @@ row_faults columns (name ∷ names) (value ∷ values) = value_faults (place_of 
 -- what refuses an INSERT
 abbrev pub check_insert : List Column → Insert → Option Refusal
 check_insert columns insert = least (flat_map (row_faults columns insert.columns) insert.rows)
+
+-- a number of rows out of the range 0 to 4,096
+abbrev pub range_faults : Value → List Refusal
+range_faults (Int n) = when (not (int_le (pos 0) n && int_le n (pos 4096))) (KRange n)
+range_faults Null = []
+range_faults (Text text) = []
+range_faults (Blob bytes) = []
+range_faults (Int8 vector) = []
+range_faults (Bits bits) = []
+
+-- the constant of a term
+abbrev pub constant_of : Test → Value
+constant_of (Compare op value) = value
+constant_of (Match query) = query
+
+-- what refuses a term
+abbrev pub term_faults : List Column → Constraint → List Refusal
+term_faults columns term =
+    let place = place_of columns term.column in
+    value_faults place (constant_of term.test) ++ (if is_count place then range_faults (constant_of term.test) else [])
+
+-- what refuses a SELECT
+abbrev pub check_select : List Column → Select → Option Refusal
+check_select columns select = least (flat_map (term_faults columns) select.wanted)

@@ -19,7 +19,7 @@ use Rattle.row_model.specs.declared.request.Request.TheVariants.{OpenSession, Ex
 use Rattle.row_model.specs.declared.request.Reply.{Reply}
 use Rattle.row_model.specs.declared.request.Reply.TheVariants.{Done, Inserted, Rows, Session, Refused}
 use Rattle.row_model.specs.Answer.{answer}
-use Rattle.row_model.specs.Check.{check_insert}
+use Rattle.row_model.specs.Check.{check_insert, check_select}
 use Rattle.row_model.specs.Change.{table_named, with_table, with_new_table, grown, last_rowid}
 
 -- the state that a run begins with: these tables, and no session
@@ -59,9 +59,14 @@ abbrev pub inserted : State → InsertRows → Option Named → Reply × State
 inserted state insert None = (Refused NoTable, state)
 inserted state insert (Some named) = checked state insert named.table (check_insert named.table.schema.columns insert)
 
+-- the terms are checked before a row is looked at
+abbrev pub answered : State → SelectRows → Table → Option Refusal → Reply × State
+answered state select table (Some refusal) = (Refused refusal, state)
+answered state select table None = (Rows (answer table select), state)
+
 abbrev pub selected : State → SelectRows → Option Named → Reply × State
 selected state select None = (Refused NoTable, state)
-selected state select (Some named) = (Rows (answer named.table select.items), state)
+selected state select (Some named) = answered state select named.table (check_select named.table.schema.columns select)
 
 abbrev pub executed : State → Statement → Reply × State
 executed state (Create name schema) = created state name schema (table_named name state.catalog.tables)

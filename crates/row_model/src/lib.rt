@@ -11,4 +11,4 @@ pub use request::{Reply, Request};
 pub use row::{Catalog, Named, Row, Table};
 pub use schema::{Column, Kind, Metric, Place, Schema};
 pub use state::{Session, State};
-pub use statement::{Insert, Items, Select, Statement};
+pub use statement::{Constraint, Insert, Items, Select, Statement, Test};

@@ -28,10 +28,13 @@ pub struct Schema {
     pub chunk_size: u16,
 }
 
-/// What a name in a statement means: no column, the rowid, or a declared column with its number from 1 and its kind.
+/// What a name in a statement means: no column, the rowid, a declared column with its number from 1 and its kind, the
+/// number of rows that a nearest-neighbour query wants, or the distance of a row.
 #[derive(Clone, Copy, Debug)]
 pub enum Place {
     Unknown,
     Rowid,
     Declared(u8, Kind),
+    Count,
+    Distance,
 }

@@ -1,5 +1,5 @@
 use crate::Schema;
-use vec_base::{List, Txt, Value};
+use vec_base::{List, Op, Txt, Value};
 
 /// A statement that was read. Names are in lower case.
 #[derive(Debug, Drop)]
@@ -18,11 +18,13 @@ pub struct Insert {
     pub rows: List<List<Value>>,
 }
 
-/// Asks for all rows of a table, by rising rowids.
+/// Asks for rows of a table: all, or those nearest to a vector.
 #[derive(Debug, Drop)]
 pub struct Select {
     pub table: Txt,
     pub items: Items,
+    /// The terms of WHERE.
+    pub wanted: List<Constraint>,
 }
 
 /// What is answered of each row.
@@ -30,4 +32,20 @@ pub struct Select {
 pub enum Items {
     /// The values of these columns, in this order.
     Named(List<Txt>),
+}
+
+/// A term on a column.
+#[derive(Debug, Drop)]
+pub struct Constraint {
+    pub column: Txt,
+    pub test: Test,
+}
+
+/// What a term asks of its column.
+#[derive(Debug, Drop)]
+pub enum Test {
+    /// The column's value stands so to the constant.
+    Compare(Op, Value),
+    /// The rows nearest to the vector are wanted.
+    Match(Value),
 }

@@ -6,13 +6,13 @@ use Rattle.row_model.specs.declared.request.Request.TheVariants.{OpenSession}
 use Rattle.row_model.specs.declared.request.Reply.{Reply}
 use Rattle.row_model.specs.declared.request.Reply.TheVariants.{Session}
 use Rattle.row_model.specs.Machine.{first_state, no_tables, answer_of}
-use Rattle.row_model.specs.Shelled.{AnswersAll, Shelled}
+use Rattle.row_model.specs.Shelled.{AnswersAll}
 use Rattle.vec_shell.specs.declared.shell.Ending.{Ending}
 use Rattle.vec_shell.specs.declared.shell.Ending.TheVariants.{Whole, ReadFault, WriteFault}
 use Rattle.vec_shell.specs.Forms.{Reads}
 use Rattle.vec_shell.specs.Headline.{Streams, Ran, status_at}
 use Rattle.vec_shell.specs.Outcome.{RanShell, RanWhole, NoneRefused, OnlyStarved, SomeRefused}
-use Rattle.vec_shell.specs.Statuses.{is_refused, is_faulted, is_starved, status_of}
+use Rattle.vec_shell.specs.Statuses.{is_refused, is_faulted, is_starved}
 
 -- a run of the session that was opened is a run of the shell
 pub ran_shell : (start last : State) (old new : Streams) (status : ℕ) → answer_of (first_state no_tables) OpenSession ≡ (Session 1, start) →

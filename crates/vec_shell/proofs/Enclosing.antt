@@ -1,9 +1,12 @@
 -- A text literal whose text has no quote encloses just its bytes.
-use Rattle.std.proofs.Common.{◌≡◌, ℕ, Bool, true, false, not, ◌==◌, cond, List, [], ◌∷◌, ◌++◌, Option, Some, None, refl, sym, ap, ◌∙◌, subst}
+use Rattle.std.proofs.Common.{◌≡◌, ℕ, Bool, true, false, not, ◌==◌, cond, List, [], ◌∷◌, ◌++◌, Option, Some, None, Err, refl, sym, ap, ◌∙◌, subst}
 use Rattle.std.proofs.lemmas.Bool.{and_parts, cond-false, eqb-true}
 use Rattle.std.proofs.lemmas.List.{append_cancel_right}
 use Rattle.std.specs.List.{list_all}
 use Rattle.std.specs.Option.{option_map}
+use Rattle.vec_literal.specs.declared.int8.LitFault.{LitFault}
+use Rattle.vec_literal.specs.declared.int8.LitFault.TheVariants.{Place, Range, OddHex, Memory}
+use Rattle.vec_literal.specs.Faults.{ReadsAs}
 use Rattle.vec_literal.specs.Int8.{SpellsInt8}
 use Rattle.vec_literal.specs.Tokens.{unquoted, enclosed}
 use Rattle.vec_literal.proofs.Int8Laws.{no_quote}
@@ -78,3 +81,10 @@ pub inside_spelled : (literal inside body vector : List ℕ) → literal ≡ 39 
 inside_spelled literal inside body vector is e spelled =
     let same : inside ≡ body = one_inside inside body (sym is ∙ encloses_vector literal body vector e spelled) in
     subst (λ (x : List ℕ). SpellsInt8 x vector) (sym same) spelled
+
+-- where another fault than want of memory is found, the text spells no vector
+pub spells_none : (fault : LitFault) (vector : List ℕ) → (fault ≡ Memory → ⊥) → ReadsAs (Err fault) vector → ⊥
+spells_none (Place place) vector other h = h
+spells_none (Range index) vector other h = h
+spells_none OddHex vector other h = h
+spells_none Memory vector other h = other refl

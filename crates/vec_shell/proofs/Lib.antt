@@ -2,6 +2,10 @@ pub mod Causes
 pub mod Enclosing
 pub mod Handing
 pub mod Kept
+pub mod ListAnswers
+pub mod ListNearest
+pub mod ListRows
+pub mod NarrowForms
 pub mod Numbers
 pub mod Opens
 pub mod PieceLaws

@@ -1,59 +1,91 @@
 -- What the parts of the reading of forms answer.
-use Rattle.std.specs.Prelude.{◌≡◌, ◌≤◌, ℕ, Bool, true, List, Some, None, Ok, Err, FitsSigned}
-use Rattle.std.specs.Int.{w64}
-use Rattle.std.specs.Str.Parse.{digits_value}
-use Rattle.std.specs.Option.{option_copied, option_map_or}
+use Rattle.std.specs.Prelude.{◌≡◌, ℕ, ℤ, Bool, true, List, Some, None, Ok, Err}
+use Rattle.std.specs.Option.{option_copied, option_map, option_map_or}
 use Rattle.std.specs.declared.option.Option.{Option}
 use Rattle.std.specs.declared.result.Result.{Result}
 use Rattle.vec_base.specs.declared.refusal.Refusal.{Refusal}
-use Rattle.vec_base.specs.declared.refusal.Refusal.TheVariants.{Unsupported}
-use Rattle.vec_literal.specs.Int8.{SpellsInt8}
-use Rattle.vec_literal.specs.Tokens.{is_number_text, enclosed}
+use Rattle.vec_base.specs.declared.refusal.Refusal.TheVariants.{Syntax, Unsupported}
+use Rattle.vec_literal.specs.declared.token.TokenSort.TheVariants.{TextLit}
+use Rattle.vec_literal.specs.Tokens.{Token, is_number_text}
 use Rattle.row_model.specs.declared.statement.Statement.{Statement}
-use Rattle.vec_shell.specs.declared.form.Open.{Open as Slices}
-use Rattle.vec_shell.specs.declared.form.Sign.{Sign}
+use Rattle.vec_shell.specs.declared.fill.Literal.{Literal}
+use Rattle.vec_shell.specs.declared.fill.Open.{Open as Slices}
 use Rattle.vec_shell.specs.declared.form.Form.{Form}
-use Rattle.vec_shell.specs.declared.form.Form.TheVariants.{Create, Insert, Select}
-use Rattle.vec_shell.specs.Forms.{Open, create_of, insert_of, select_rows, signed}
+use Rattle.vec_shell.specs.declared.form.Form.TheVariants.{Create, Insert, Select, Nearest}
+use Rattle.vec_shell.specs.declared.form.Like.{Like as Likeness}
+use Rattle.vec_shell.specs.declared.form.Like.TheVariants as likes
+use Rattle.vec_shell.specs.declared.form.Numbered.{Numbered}
+use Rattle.vec_shell.specs.declared.form.Numbered.TheVariants as numbered
+use Rattle.vec_shell.specs.declared.form.Sign.{Sign}
+use Rattle.vec_shell.specs.Forms.{Open, Like, create, insert, insert_next, select, nearest, IsLike, IsNumber, Encloses, filled_form, both_open, insert_form, nearest_form, create_of, insert_of, insert_next_of, select_rows, nearest_of}
+
+abbrev pub inserting : Option ℤ → List ℕ → Statement
+inserting None vector = insert_next_of vector
+inserting (Some rowid) vector = insert_of rowid vector
 
 -- the statement that a form stands for
 abbrev pub statement_of : Form → Statement
 statement_of (Create width) = create_of width
-statement_of (Insert rowid vector) = insert_of rowid vector
+statement_of (Insert rowid vector) = inserting rowid vector
 statement_of Select = select_rows
+statement_of (Nearest query k) = nearest_of k query
 
--- the statement, or the refusal of a text that is of no form
-abbrev pub read_as : Option Form → Result Statement Refusal
-read_as (Some form) = Ok (statement_of form)
-read_as None = Err (Unsupported 0)
+-- the statement, or the refusal of the reading
+abbrev pub read_as : Result Form Refusal → Result Statement Refusal
+read_as (Ok form) = Ok (statement_of form)
+read_as (Err refusal) = Err refusal
 
--- what stands at the open places, as it is spelled
+-- ---- what stands at the open places
+
+abbrev pub token_of_literal : Literal → Token
+token_of_literal literal = record { sort = Some TextLit; spelling = literal.spelling.now; place = literal.place }
+
 abbrev pub places_of : Slices → Open
-places_of found = record { number = option_copied found.number; literal = option_copied found.literal }
+places_of found = record { number = option_copied found.number; literal = option_map token_of_literal found.literal }
 
 -- the number that was found is one of digits
 abbrev pub is_told : Open → Bool
 is_told found = option_map_or is_number_text found.number true
 
--- the text literal encloses the literal of the vector, or of none
-abbrev pub Encloses : List ℕ → Option (List ℕ) → Type 0
-Encloses literal (Some vector) = (body : List ℕ) × (enclosed literal ≡ Some body) × SpellsInt8 body vector
-Encloses literal None = (body vector : List ℕ) → enclosed literal ≡ Some body → SpellsInt8 body vector → ⊥
+-- ---- what a text is like
 
--- what is read of a text by one form: the statement, or that there is none
-abbrev pub ReadsOne : (Statement → Type 0) → Option Form → Type 0
-ReadsOne SpellsOne (Some form) = SpellsOne (statement_of form)
-ReadsOne SpellsOne None = (statement : Statement) → SpellsOne statement → ⊥
+abbrev pub like_insert : Option ℤ → Token → Like
+like_insert None literal = insert_next literal
+like_insert (Some rowid) literal = insert rowid literal
 
--- a table of vectors of that many elements, if the number is 1 to 8,192
-abbrev pub CreatesTable : ℕ → Option Form → Type 0
-CreatesTable n (Some form) = (1 ≤ n) × (n ≤ 8192) × (statement_of form ≡ create_of n)
-CreatesTable n None = 1 ≤ n → n ≤ 8192 → ⊥
+abbrev pub like_of : Likeness → Like
+like_of (likes.Create width) = create width
+like_of (likes.Insert rowid literal) = like_insert rowid (token_of_literal literal)
+like_of likes.Select = select
+like_of (likes.Nearest literal k) = nearest (token_of_literal literal) k
 
--- the row of a rowid of 64 bits and a vector that the literal encloses
-abbrev pub InsertsRow : Sign → List ℕ → List ℕ → Option Form → Type 0
-InsertsRow sign digits literal (Some form) =
-    (body vector : List ℕ) × FitsSigned w64 (signed sign (digits_value 10 digits)) × (enclosed literal ≡ Some body) × SpellsInt8 body vector
-    × (statement_of form ≡ insert_of (signed sign (digits_value 10 digits)) vector)
-InsertsRow sign digits literal None =
-    FitsSigned w64 (signed sign (digits_value 10 digits)) → (body vector : List ℕ) → enclosed literal ≡ Some body → SpellsInt8 body vector → ⊥
+-- the text is of no form
+abbrev pub IsUnlike : List ℕ → Type 0
+IsUnlike text = (like : Like) → IsLike text like → ⊥
+
+-- the refusal of a text of no form that has a place at which no token can be read or not
+abbrev pub refused_at : Option ℕ → Refusal
+refused_at (Some place) = Syntax place
+refused_at None = Unsupported 0
+
+-- ---- the forms with a number that may have a sign
+
+abbrev pub form_of : Numbered → Sign → List ℕ
+form_of numbered.Insert sign = insert_form sign
+form_of numbered.Nearest sign = nearest_form sign
+
+abbrev pub numbered_like : Numbered → ℤ → Token → Like
+numbered_like numbered.Insert number literal = insert number literal
+numbered_like numbered.Nearest number literal = nearest literal number
+
+-- the text has the number, with this sign, and the literal at the form's open places
+abbrev pub IsNumbered : Numbered → Sign → List ℕ → ℤ → Token → Type 0
+IsNumbered form sign text number literal =
+    (digits : List ℕ) × (filled_form (form_of form sign) text ≡ Some (both_open digits literal)) × IsNumber sign digits number
+
+-- ---- the vector of a literal
+
+-- the vector that the literal encloses, or that none is, at the literal's place
+abbrev pub ReadsLiteral : Token → Result (List ℕ) Refusal → Type 0
+ReadsLiteral literal (Ok vector) = Encloses literal vector
+ReadsLiteral literal (Err refusal) = (refusal ≡ Syntax literal.place) × ((vector : List ℕ) → Encloses literal vector → ⊥)

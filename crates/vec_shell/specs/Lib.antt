@@ -13,3 +13,4 @@ pub mod Quotes
 pub mod Sending
 pub mod Served
 pub mod Statuses
+pub mod Widths

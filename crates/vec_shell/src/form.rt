@@ -1,30 +1,43 @@
-ghost use Rattle.std.specs.Prelude.{◌≡◌, ◌≤◌, ◌^◌, ◌++◌, ◌∷◌, [], ℕ, List, true, length, FitsSigned, IfOk, IfSome, MatchOption};
+ghost use Rattle.std.specs.Prelude.{◌≡◌, ◌≤◌, ◌^◌, ◌++◌, ◌∷◌, [], ℕ, ℤ, List, true, FitsSigned, IfOk, MatchBool, MatchOption};
 ghost use Rattle.std.specs.Int.{w64};
-ghost use Rattle.std.specs.Option.{option_map};
 ghost use Rattle.std.specs.Str.Parse.{digits_value};
-ghost use Rattle.vec_literal.specs.Tokens.{is_number_text, tokens};
-ghost use Rattle.vec_shell.specs.declared.form.Sign.{Sign};
-ghost use Rattle.vec_shell.specs.Forms.{Reads, SpellsCreate, SpellsInsert, SpellsSelect, filled, filled_form, fits_spelling, insert_form, is_literal_sort, is_number_sort, signed, with_spelling};
-ghost use Rattle.vec_shell.specs.FormsRead.{CreatesTable, Encloses, InsertsRow, ReadsOne, is_told, places_of, read_as};
+ghost use Rattle.vec_literal.specs.Tokens.{Token, is_number_text, tokens};
+ghost use Rattle.vec_shell.specs.Forms.{IsLike, IsNumber, IsWidth, Reads, ReadsLike, create, insert_next, select, signed, unread_place};
+ghost use Rattle.vec_shell.specs.FormsRead.{IsNumbered, IsUnlike, ReadsLiteral, like_of, numbered_like, read_as, refused_at, token_of_literal};
 
+use crate::fill::{Literal, Open, fill_form, unread_place};
 use std::alloc::Global;
-use vec_base::{Bytes, Memory};
-use vec_literal::{Lexed, LitFault, TokenSort, next_token, read_int8};
+use vec_base::{Bytes, Memory, Refusal};
+use vec_literal::{LitFault, read_int8};
 
 /// The most bytes of a statement's text.
 const LIMIT: usize = 4_194_304;
 
-/// A statement of one of the three forms.
+/// A statement of one of the five forms.
 #[derive(Debug, Drop)]
 pub(crate) enum Form {
     /// The number of elements of the table's vectors.
     Create(u16),
-    /// A rowid and a vector.
-    Insert(i64, Bytes),
+    /// A rowid, or that one is to be assigned, and a vector.
+    Insert(Option<i64>, Bytes),
     Select,
+    /// The vector that is looked for, and the number of rows.
+    Nearest(Bytes, i64),
 }
 
-/// What stands before the rowid of an INSERT.
+/// What a text is like, before the literal of its vector is read.
+#[derive(Clone, Copy)]
+pub(crate) enum Like<'a> {
+    /// The number of elements of the table's vectors.
+    Create(u16),
+    /// A rowid, or that one is to be assigned, and the vector's literal.
+    Insert(Option<i64>, Literal<'a>),
+    Select,
+    /// The literal of the vector that is looked for, and the number of rows.
+    Nearest(Literal<'a>, i64),
+}
+
+/// What stands before a number.
 #[derive(Clone, Copy, Debug)]
 pub(crate) enum Sign {
     Unsigned,
@@ -32,121 +45,39 @@ pub(crate) enum Sign {
     Minus,
 }
 
-/// The number and the text literal that were found in a text, as they are spelled.
+/// A form with a number that may have a sign, and a literal.
 #[derive(Clone, Copy)]
-pub(crate) struct Open<'a> {
-    pub(crate) number: Option<&'a [u8]>,
-    pub(crate) literal: Option<&'a [u8]>,
+pub(crate) enum Numbered {
+    Insert,
+    Nearest,
 }
 
-fn is_number(sort: TokenSort) -> bool
-    ensures { result ≡ is_number_sort sort }
-{
-    matches!(sort, TokenSort::Number)
-}
+impl Numbered {
+    ghost use Rattle.vec_shell.specs.FormsRead.{form_of};
 
-fn is_literal(sort: TokenSort) -> bool
-    ensures { result ≡ is_literal_sort sort }
-{
-    matches!(sort, TokenSort::TextLit)
-}
-
-/// Whether the spelling may stand where a form shows another.
-fn fits(shown_sort: TokenSort, shown: &[u8], sort: TokenSort, spelling: &[u8]) -> bool
-    ensures { result ≡ fits_spelling shown_sort shown.now sort spelling.now }
-{
-    if is_number(shown_sort) {
-        return is_number(sort);
-    }
-    if is_literal(shown_sort) {
-        return is_literal(sort);
-    }
-    spelling.eq_ignore_ascii_case(shown)
-}
-
-impl<'a> Open<'a> {
-    ghost use Rattle.vec_shell.specs.FormsRead.{is_told, places_of};
-
-    /// With the spelling, if it is a number or a text literal.
-    fn with(self, sort: TokenSort, spelling: &'a [u8]) -> Open<'a>
-        ensures value { places_of result ≡ with_spelling sort spelling.entry.now (places_of self.entry) }
+    /// The form with this sign before its number.
+    fn form(self, sign: Sign) -> &'static [u8]
+        ensures { result.now ≡ form_of self sign }
     {
-        if is_number(sort) {
-            return Open {
-                number: Some(spelling),
-                literal: self.literal,
-            };
-        }
-        if is_literal(sort) {
-            return Open {
-                number: self.number,
-                literal: Some(spelling),
-            };
-        }
-        self
-    }
-}
-
-/// What stands at the open places of the form, if the text from a place on is like the form from a place on.
-fn fill<'a>(
-    form: &[u8],
-    shown_at: usize,
-    text: &'a [u8],
-    at: usize,
-    found: Open<'a>,
-) -> Option<Open<'a>>
-    requires shown_inside { shown_at ≤ length form.now }
-    requires inside { at ≤ length text.now }
-    ensures filled { option_map places_of result ≡ filled (tokens form.now shown_at) (tokens text.entry.now at) (places_of found.entry) }
-    ensures told { is_told (places_of found.entry) ≡ true → IfSome result (λ open_places. is_told (places_of open_places) ≡ true) }
-{
-    match next_token(form, shown_at) {
-        Lexed::Found(shown) => match next_token(text, at) {
-            Lexed::Found(token) => {
-                let spelling = &text[token.from..token.upto];
-                if !fits(
-                    shown.sort,
-                    &form[shown.from..shown.upto],
-                    token.sort,
-                    spelling,
-                ) {
-                    return None;
+        match self {
+            Numbered::Insert => match sign {
+                Sign::Unsigned => b"INSERT INTO v(rowid, a) VALUES (1, vec_int8('[]'))",
+                Sign::Plus => b"INSERT INTO v(rowid, a) VALUES (+1, vec_int8('[]'))",
+                Sign::Minus => b"INSERT INTO v(rowid, a) VALUES (-1, vec_int8('[]'))",
+            },
+            Numbered::Nearest => match sign {
+                Sign::Unsigned => {
+                    b"SELECT rowid, distance FROM v WHERE a MATCH vec_int8('[]') AND k = 1"
                 }
-                fill(
-                    form,
-                    shown.upto,
-                    text,
-                    token.upto,
-                    found.with(token.sort, spelling),
-                )
-            }
-            Lexed::End => None,
-            Lexed::Bad(_) => None,
-        },
-        Lexed::End => match next_token(text, at) {
-            Lexed::End => Some(found),
-            Lexed::Found(_) => None,
-            Lexed::Bad(_) => None,
-        },
-        Lexed::Bad(_) => None,
+                Sign::Plus => {
+                    b"SELECT rowid, distance FROM v WHERE a MATCH vec_int8('[]') AND k = +1"
+                }
+                Sign::Minus => {
+                    b"SELECT rowid, distance FROM v WHERE a MATCH vec_int8('[]') AND k = -1"
+                }
+            },
+        }
     }
-}
-
-/// What stands at the open places of the form, if the text is like it.
-fn fill_form<'a>(form: &[u8], text: &'a [u8]) -> Option<Open<'a>>
-    ensures filled { option_map places_of result ≡ filled_form form.now text.entry.now }
-    ensures told { IfSome result (λ open_places. is_told (places_of open_places) ≡ true) }
-{
-    fill(
-        form,
-        0,
-        text,
-        0,
-        Open {
-            number: None,
-            literal: None,
-        },
-    )
 }
 
 /// The number that the digits write, if it has 64 bits.
@@ -154,81 +85,7 @@ fn decimal_value(digits: &[u8]) -> Option<u64>
     requires { is_number_text digits.now ≡ true }
     ensures { MatchOption result (2 ^ 64 ≤ digits_value 10 digits.now) (λ n. n ≡ digits_value 10 digits.now) }
 {
-    match str::from_utf8(digits) {
-        Ok(text) => match text.parse::<u64>() {
-            Ok(value) => Some(value),
-            Err(_) => None,
-        },
-        Err(_) => None,
-    }
-}
-
-/// The statement of the form `CREATE VIRTUAL TABLE v USING vec0(a int8[N])`, with N from 1 to 8,192.
-fn read_create(text: &[u8]) -> Option<Form>
-    ensures { ReadsOne (SpellsCreate text.now) result }
-{
-    match fill_form(b"CREATE VIRTUAL TABLE v USING vec0(a int8[1])", text) {
-        Some(
-            Open {
-                number: Some(digits),
-                literal: None,
-            },
-        ) => create_of(digits),
-        _ => None,
-    }
-}
-
-/// The table of vectors of that many elements, if the number is 1 to 8,192.
-fn create_of(digits: &[u8]) -> Option<Form>
-    requires { is_number_text digits.now ≡ true }
-    ensures { CreatesTable (digits_value 10 digits.now) result }
-{
-    let width = decimal_value(digits)?;
-    if width == 0 || width > 8192 {
-        return None;
-    }
-    Some(Form::Create(width as u16))
-}
-
-/// The statement of the form `SELECT rowid, a FROM v`.
-fn read_select(text: &[u8]) -> Option<Form>
-    ensures { ReadsOne (SpellsSelect text.now) result }
-{
-    match fill_form(b"SELECT rowid, a FROM v", text) {
-        Some(
-            Open {
-                number: None,
-                literal: None,
-            },
-        ) => Some(Form::Select),
-        _ => None,
-    }
-}
-
-/// The bytes between the quotes of a text literal in which no quote is doubled.
-fn unquoted(literal: &[u8]) -> Option<&[u8]>
-    ensures { MatchOption result ((inside : List ℕ) → literal.now ≡ 39 ∷ (inside ++ 39 ∷ []) → ⊥) (λ inside. literal.now ≡ 39 ∷ (inside.now ++ 39 ∷ [])) }
-{
-    match literal {
-        [b'\'', inside @ .., b'\''] => Some(inside),
-        _ => None,
-    }
-}
-
-/// The vector whose literal the text literal encloses, if it encloses one.
-fn vector_of(alloc: Global, literal: &[u8]) -> Result<Option<Bytes>, Memory>
-    ensures { IfOk result (Encloses literal.now) }
-{
-    let Some(inside) = unquoted(literal) else {
-        return Ok(None);
-    };
-    match read_int8(alloc, inside) {
-        Ok(vector) => Ok(Some(vector)),
-        Err(LitFault::Memory) => Err(Memory),
-        Err(LitFault::Place(_)) => Ok(None),
-        Err(LitFault::Range(_)) => Ok(None),
-        Err(LitFault::OddHex) => Ok(None),
-    }
+    str::from_utf8(digits).ok()?.parse().ok()
 }
 
 /// The number with the sign, if it has 64 bits.
@@ -243,79 +100,256 @@ fn signed(sign: Sign, number: u64) -> Option<i64>
     i64::try_from(wide).ok()
 }
 
-/// The form of an INSERT with this sign before the rowid.
-fn insert_form(sign: Sign) -> &'static [u8]
-    ensures { result.now ≡ insert_form sign }
-{
-    match sign {
-        Sign::Unsigned => b"INSERT INTO v(rowid, a) VALUES (1, vec_int8('[]'))",
-        Sign::Plus => b"INSERT INTO v(rowid, a) VALUES (+1, vec_int8('[]'))",
-        Sign::Minus => b"INSERT INTO v(rowid, a) VALUES (-1, vec_int8('[]'))",
-    }
-}
-
-/// The row of a rowid and a vector, if the rowid has 64 bits and the literal encloses a vector.
-fn insert_of(
-    alloc: Global,
-    sign: Sign,
-    digits: &[u8],
-    literal: &[u8],
-) -> Result<Option<Form>, Memory>
+/// The number that the sign and the digits write, if it has 64 bits.
+fn number_of(sign: Sign, digits: &[u8]) -> Option<i64>
     requires { is_number_text digits.now ≡ true }
-    ensures { IfOk result (InsertsRow sign digits.now literal.now) }
+    ensures { MatchOption result ((number : ℤ) → IsNumber sign digits.now number → ⊥) (IsNumber sign digits.now) }
 {
-    let Some(number) = decimal_value(digits) else {
-        return Ok(None);
-    };
-    let Some(rowid) = signed(sign, number) else {
-        return Ok(None);
-    };
-    match vector_of(alloc, literal)? {
-        Some(vector) => Ok(Some(Form::Insert(rowid, vector))),
-        None => Ok(None),
+    signed(sign, decimal_value(digits)?)
+}
+
+/// The number that the digits write, if it is 1 to 8,192.
+fn width_of(digits: &[u8]) -> Option<u16>
+    requires { is_number_text digits.now ≡ true }
+    ensures { MatchOption result ((width : ℕ) → IsWidth digits.now width → ⊥) (IsWidth digits.now) }
+{
+    let width = decimal_value(digits)?;
+    if width == 0 || width > 8192 {
+        return None;
+    }
+    Some(width as u16)
+}
+
+/// The number of elements of the vectors of the table that the text creates, if it is of that form.
+fn read_create(text: &[u8]) -> Option<u16>
+    ensures { MatchOption result ((width : ℕ) → IsLike text.now (create width) → ⊥) (λ width. IsLike text.now (create width)) }
+{
+    match fill_form(b"CREATE VIRTUAL TABLE v USING vec0(a int8[1])", text) {
+        Some(
+            Open {
+                number: Some(digits),
+                literal: None,
+            },
+        ) => width_of(digits),
+        _ => None,
     }
 }
 
-/// The statement of the form `INSERT INTO v(rowid, a) VALUES (R, vec_int8(T))`, with this sign before R.
-fn read_insert(alloc: Global, text: &[u8], sign: Sign) -> Result<Option<Form>, Memory>
-    ensures { IfOk result (ReadsOne (SpellsInsert sign text.now)) }
+/// Whether the text is of the form that selects all rows.
+fn is_select(text: &[u8]) -> bool
+    ensures { MatchBool result (IsLike text.now select) (IsLike text.now select → ⊥) }
 {
-    match fill_form(insert_form(sign), text) {
+    matches!(
+        fill_form(b"SELECT rowid, a FROM v", text),
+        Some(Open {
+            number: None,
+            literal: None,
+        })
+    )
+}
+
+/// The literal of an INSERT without a rowid, if the text is of that form.
+fn read_next(text: &[u8]) -> Option<Literal<'_>>
+    ensures { MatchOption result
+        ((literal : Token) → IsLike text.entry.now (insert_next literal) → ⊥)
+        (λ literal. IsLike text.entry.now (insert_next (token_of_literal literal))) }
+{
+    match fill_form(b"INSERT INTO v(a) VALUES (vec_int8('[]'))", text) {
+        Some(
+            Open {
+                number: None,
+                literal: Some(literal),
+            },
+        ) => Some(literal),
+        _ => None,
+    }
+}
+
+/// What a text has at the open places of a form with a number and a literal.
+#[derive(Clone, Copy)]
+struct Filled<'a> {
+    number: i64,
+    literal: Literal<'a>,
+}
+
+/// The number and the literal of the text, if it is of the form with this sign.
+fn read_signed<'a>(form: Numbered, sign: Sign, text: &'a [u8]) -> Option<Filled<'a>>
+    ensures { MatchOption result
+        ((number : ℤ) (literal : Token) → IsNumbered form sign text.entry.now number literal → ⊥)
+        (λ found. IsNumbered form sign text.entry.now found.number (token_of_literal found.literal)) }
+{
+    match fill_form(form.form(sign), text) {
         Some(
             Open {
                 number: Some(digits),
                 literal: Some(literal),
             },
-        ) => insert_of(alloc, sign, digits, literal),
-        _ => Ok(None),
+        ) => Some(Filled {
+            number: number_of(sign, digits)?,
+            literal,
+        }),
+        _ => None,
     }
 }
 
-/// The same with any sign or none.
-fn read_any_insert(alloc: Global, text: &[u8]) -> Result<Option<Form>, Memory>
-    ensures { IfOk result (ReadsOne (λ statement. (sign : Sign) × SpellsInsert sign text.now statement)) }
+/// The number and the literal of the text, if it is of the form with any sign or none.
+fn read_numbered<'a>(form: Numbered, text: &'a [u8]) -> Option<Filled<'a>>
+    ensures { MatchOption result
+        ((number : ℤ) (literal : Token) → IsLike text.entry.now (numbered_like form number literal) → ⊥)
+        (λ found. IsLike text.entry.now (numbered_like form found.number (token_of_literal found.literal))) }
 {
-    if let Some(form) = read_insert(alloc, text, Sign::Unsigned)? {
-        return Ok(Some(form));
+    if let Some(found) = read_signed(form, Sign::Unsigned, text) {
+        return Some(found);
     }
-    if let Some(form) = read_insert(alloc, text, Sign::Plus)? {
-        return Ok(Some(form));
+    if let Some(found) = read_signed(form, Sign::Plus, text) {
+        return Some(found);
     }
-    read_insert(alloc, text, Sign::Minus)
+    read_signed(form, Sign::Minus, text)
 }
 
-/// The statement that the text spells, if it spells one of the three forms.
-pub(crate) fn read_form(alloc: Global, text: &[u8]) -> Result<Option<Form>, Memory>
+/// What the text is like, if it is of one of the five forms.
+fn read_like(text: &[u8]) -> Option<Like<'_>>
+    ensures { MatchOption result (IsUnlike text.entry.now) (λ like. IsLike text.entry.now (like_of like)) }
+{
+    if let Some(found) = read_numbered(Numbered::Insert, text) {
+        return Some(Like::Insert(Some(found.number), found.literal));
+    }
+    if let Some(literal) = read_next(text) {
+        return Some(Like::Insert(None, literal));
+    }
+    if let Some(found) = read_numbered(Numbered::Nearest, text) {
+        return Some(Like::Nearest(found.literal, found.number));
+    }
+    if is_select(text) {
+        return Some(Like::Select);
+    }
+    Some(Like::Create(read_create(text)?))
+}
+
+/// The bytes between the quotes of a text literal in which no quote is doubled.
+fn unquoted(literal: &[u8]) -> Option<&[u8]>
+    ensures { MatchOption result
+        ((inside : List ℕ) → literal.now ≡ 39 ∷ (inside ++ 39 ∷ []) → ⊥)
+        (λ inside. literal.now ≡ 39 ∷ (inside.now ++ 39 ∷ [])) }
+{
+    match literal {
+        [b'\'', inside @ .., b'\''] => Some(inside),
+        _ => None,
+    }
+}
+
+/// The vector whose literal the text literal encloses, or the refusal of a text literal that encloses none.
+fn read_vector(alloc: Global, literal: Literal) -> Result<Result<Bytes, Refusal>, Memory>
+    ensures { IfOk result (ReadsLiteral (token_of_literal literal.entry)) }
+{
+    let refusal = Refusal::Syntax(literal.place as u64);
+    let Some(inside) = unquoted(literal.spelling) else {
+        return Ok(Err(refusal));
+    };
+    match read_int8(alloc, inside) {
+        Ok(vector) => Ok(Ok(vector)),
+        Err(LitFault::Memory) => Err(Memory),
+        Err(_) => Ok(Err(refusal)),
+    }
+}
+
+/// The statement of a text that is like this, or the refusal of its literal.
+fn read_statement(alloc: Global, like: Like) -> Result<Result<Form, Refusal>, Memory>
+    ensures { IfOk result (λ read. ReadsLike (like_of like.entry) (read_as read)) }
+{
+    match like {
+        Like::Create(width) => Ok(Ok(Form::Create(width))),
+        Like::Insert(rowid, literal) => {
+            Ok(read_vector(alloc, literal)?.map(|vector| Form::Insert(rowid, vector)))
+        }
+        Like::Select => Ok(Ok(Form::Select)),
+        Like::Nearest(literal, k) => {
+            Ok(read_vector(alloc, literal)?.map(|query| Form::Nearest(query, k)))
+        }
+    }
+}
+
+/// The refusal of a text that is of no form.
+fn refusal_of(text: &[u8]) -> Refusal
+    ensures { result ≡ refused_at (unread_place (tokens text.now 0)) }
+{
+    unread_place(text).map_or(Refusal::Unsupported(0), |place| {
+        Refusal::Syntax(place as u64)
+    })
+}
+
+/// The statement that the text spells, or the refusal of its reading.
+pub(crate) fn read_form(alloc: Global, text: &[u8]) -> Result<Result<Form, Refusal>, Memory>
     ensures { IfOk result (λ read. Reads text.now (read_as read)) }
 {
     if text.len() > LIMIT {
-        return Ok(None);
+        return Ok(Err(Refusal::Syntax(LIMIT as u64)));
     }
-    if let Some(form) = read_create(text) {
-        return Ok(Some(form));
+    match read_like(text) {
+        Some(like) => read_statement(alloc, like),
+        None => Ok(Err(refusal_of(text))),
     }
-    if let Some(form) = read_any_insert(alloc, text)? {
-        return Ok(Some(form));
+}
+
+#[cfg(test)]
+mod tests {
+    use super::*;
+    use std::test::Fail;
+
+    /// Texts that are refused, and their refusals.
+    const REFUSED: [(&[u8], Refusal); 7] = [
+        (b"SELECT 'a", Refusal::Syntax(7)),
+        (b"SELECT rowid, a FROM v \xff", Refusal::Syntax(23)),
+        (b"DROP TABLE v", Refusal::Unsupported(0)),
+        (
+            b"CREATE VIRTUAL TABLE v USING vec0(a int8[8193])",
+            Refusal::Unsupported(0),
+        ),
+        (
+            b"INSERT INTO v(rowid, a) VALUES (9223372036854775808, vec_int8('x'))",
+            Refusal::Unsupported(0),
+        ),
+        (
+            b"INSERT INTO v(a) VALUES (vec_int8('[128]'))",
+            Refusal::Syntax(34),
+        ),
+        (
+            b"SELECT rowid, distance FROM v WHERE a MATCH vec_int8('''') AND k = 1",
+            Refusal::Syntax(53),
+        ),
+    ];
+
+    fn read(alloc: Global, text: &[u8]) -> Result<Result<Form, Refusal>, Fail> {
+        Ok(read_form(alloc, text).or(Err("no memory"))?)
     }
-    Ok(read_select(text))
+
+    #[test]
+    fn each_form_is_read(rt: HostRuntime) -> Result<(), Fail> {
+        let alloc = rt.alloc();
+        let created = read(alloc, b"create virtual table V using vec0(A int8[02])")?;
+        assert!(rt; matches!(created, Ok(Form::Create(2))));
+        let inserted = read(
+            alloc,
+            b"INSERT INTO v(rowid, a) VALUES (-3, vec_int8('[1]'))",
+        )?;
+        assert!(rt; matches!(inserted, Ok(Form::Insert(Some(-3), _))));
+        let next = read(alloc, b"INSERT INTO v(a) VALUES (vec_int8('[1]'))")?;
+        assert!(rt; matches!(next, Ok(Form::Insert(None, _))));
+        let selected = read(alloc, b"SELECT rowid, a FROM v")?;
+        assert!(rt; matches!(selected, Ok(Form::Select)));
+        let nearest = read(
+            alloc,
+            b"SELECT rowid, distance FROM v WHERE a MATCH vec_int8('[1]') AND k = +5",
+        )?;
+        assert!(rt; matches!(nearest, Ok(Form::Nearest(_, 5))));
+        Ok(())
+    }
+
+    #[test]
+    fn other_texts_are_refused(rt: HostRuntime) -> Result<(), Fail> {
+        for (text, refusal) in REFUSED {
+            assert!(rt; matches!(read(rt.alloc(), text)?, Err(found) if found == refusal));
+        }
+        Ok(())
+    }
 }

@@ -2,6 +2,7 @@
 #![tactic(auto)]
 
 mod cutter;
+mod fill;
 mod form;
 mod list_session;
 mod output;

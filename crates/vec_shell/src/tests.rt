@@ -11,11 +11,17 @@ const THREE: &str = "INSERT INTO v(rowid, a) VALUES (3, vec_int8('[3,4]')); ";
 
 const ROWS: &str = "SELECT rowid, a FROM v;";
 
-/// How a source and a sink in memory behave: bytes in a read, the read that fails, and the sink's room.
+const NEXT: &str =
+    "INSERT INTO v(a) VALUES (vec_int8('[1,2]')); INSERT INTO v(a) VALUES (vec_int8('[3,4]'));";
+
+const NEAREST: &str = "SELECT rowid, distance FROM v WHERE a MATCH vec_int8('[0,0]') AND k = ";
+
+/// How a source and a sink in memory behave: bytes in a read, the read and the write that fail, and the sink's room.
 #[derive(Clone, Copy)]
 struct Setting {
     piece: usize,
     failing_read: u64,
+    failing_write: u64,
     room: usize,
 }
 
@@ -24,19 +30,27 @@ fn whole(piece: usize) -> Setting {
     Setting {
         piece,
         failing_read: 0,
+        failing_write: 0,
         room: 4096,
     }
+}
+
+/// A list of one number.
+fn only(alloc: Global, number: u64) -> Result<List<u64>, Fail> {
+    let mut numbers = List::new(alloc);
+    numbers.push(number).or(Err("no memory"))?;
+    Ok(numbers)
 }
 
 /// The status and the output of a run.
 fn ran(alloc: Global, word: &str, input: &[u8], setting: &Setting) -> Result<(u8, Vec<u8>), Fail> {
     let mut words = Vec::new(alloc);
     words.push(String::from_str(alloc, word)?)?;
-    let mut fails = List::new(alloc);
-    fails.push(setting.failing_read).or(Err("no memory"))?;
     let bytes = Bytes::from_slice(alloc, input).or(Err("no memory"))?;
-    let mut source = MemorySource::new(bytes, setting.piece.max(1), fails);
-    let mut sink = MemorySink::new(alloc, setting.room, List::new(alloc)).or(Err("no memory"))?;
+    let reads = only(alloc, setting.failing_read)?;
+    let writes = only(alloc, setting.failing_write)?;
+    let mut source = MemorySource::new(bytes, setting.piece.max(1), reads);
+    let mut sink = MemorySink::new(alloc, setting.room, writes).or(Err("no memory"))?;
     let status = run(alloc, words.as_slice(), &mut source, &mut sink);
     Ok((status, sink.bytes().to_vec(alloc)?))
 }
@@ -73,18 +87,24 @@ fn refusals_are_answered_and_the_run_goes_on(rt: HostRuntime) -> Result<(), Fail
 fn texts_are_read_as_they_are_spelled(rt: HostRuntime) -> Result<(), Fail> {
     let alloc = rt.alloc();
     let form = "error 2 unsupported form\n";
-    let cases: [(&[u8], &str); 25] = [
+    let cases: [(&[u8], &str); 28] = [
         (b"", ""),
         (b" \t\n\x0c\r;; ;", ""),
-        (b"\0", form),
-        (b"\xff;", form),
+        (b"\0", "error 1 syntax at 0\n"),
+        (b"\xff;", "error 1 syntax at 0\n"),
+        (b"SELECT #", "error 1 syntax at 7\n"),
+        (b"SELECT 'a' x'0", "error 1 syntax at 11\n"),
+        (
+            b"select rowid, Distance from v where a match VEC_INT8('[]') and K = -9223372036854775809",
+            form,
+        ),
         (b"SELECT rowid, a FROM v", "error 5 no table\n"),
         (b"select ROWID ,a\nfrom V ;", "error 5 no table\n"),
         (b"SELECT rowid a FROM v;", form),
         (b"SELECT rowid, a FROM v v;", form),
         (
             b"'a;b';'c",
-            "error 2 unsupported form\nerror 2 unsupported form\n",
+            "error 2 unsupported form\nerror 1 syntax at 0\n",
         ),
         (
             b"create virtual table v using VEC0 ( A int8 [ 0001 ] )",
@@ -116,15 +136,15 @@ fn texts_are_read_as_they_are_spelled(rt: HostRuntime) -> Result<(), Fail> {
         ),
         (
             b"INSERT INTO v(rowid, a) VALUES (1, vec_int8('[128]'))",
-            form,
+            "error 1 syntax at 44\n",
         ),
         (
             b"INSERT INTO v(rowid, a) VALUES (1, vec_int8('[01]'))",
-            form,
+            "error 1 syntax at 44\n",
         ),
         (
             b"INSERT INTO v(rowid, a) VALUES (1, vec_int8('[1'']'))",
-            form,
+            "error 1 syntax at 44\n",
         ),
         (b"INSERT INTO v(rowid, a) VALUES (1, '[1]')", form),
         (b"INSERT INTO v(rowid, a) VALUES (1, vec_int8(x'01'))", form),
@@ -137,6 +157,49 @@ fn texts_are_read_as_they_are_spelled(rt: HostRuntime) -> Result<(), Fail> {
         let (_, out) = ran(alloc, "shell", input, &whole(3))?;
         assert_eq!(rt; out.as_slice(), wanted.as_bytes(), "{input:?}");
     }
+    Ok(())
+}
+
+#[test]
+fn the_nearest_rows_come_first(rt: HostRuntime) -> Result<(), Fail> {
+    let alloc = rt.alloc();
+    let tied =
+        "INSERT INTO v(rowid, a) VALUES (9, vec_int8('[1,2]')); INSERT INTO v(rowid, a) VALUES (4, vec_int8('[2,1]'));";
+    let cases = [
+        ("2", "1|5\n2|25\nrows 2\n"),
+        ("0", "rows 0\n"),
+        ("4096", "1|5\n2|25\nrows 2\n"),
+        ("4097", "error 13 k out of range 4097\n"),
+        ("-1", "error 13 k out of range -1\n"),
+    ];
+    for (k, wanted) in cases {
+        let input = format!(in alloc; "{TABLE}{NEXT}{NEAREST}{k}")?;
+        let (_, out) = ran(alloc, "shell", input.as_bytes(), &whole(50))?;
+        let told = format!(in alloc; "ok\nok inserted 1 last 1\nok inserted 1 last 2\n{wanted}")?;
+        assert_eq!(rt; out.as_slice(), told.as_bytes());
+    }
+    let input = format!(in alloc; "{TABLE}{tied}{SEVEN}{NEAREST}+2")?;
+    let (_, out) = ran(alloc, "shell", input.as_bytes(), &whole(50))?;
+    assert!(rt; out.as_slice().ends_with(b"4|5\n7|5\nrows 2\n"));
+    Ok(())
+}
+
+#[test]
+fn rowids_are_assigned_above_the_top(rt: HostRuntime) -> Result<(), Fail> {
+    let alloc = rt.alloc();
+    let last = "INSERT INTO v(rowid, a) VALUES (9223372036854775807, vec_int8('[1,2]'));";
+    let input = format!(in alloc;
+        "{NEXT}{NEAREST}1;{TABLE}INSERT INTO v(rowid, a) VALUES (-5, vec_int8('[1,2]'));{NEXT}{last}{NEXT}\
+        INSERT INTO v(a) VALUES (vec_int8('[1]'));\
+        SELECT rowid, distance FROM v WHERE a MATCH vec_int8('[1]') AND k = -1"
+    )?;
+    let wanted = "error 5 no table\nerror 5 no table\nerror 5 no table\nok\nok inserted 1 last -5\n\
+        ok inserted 1 last 1\nok inserted 1 last 2\nok inserted 1 last 9223372036854775807\n\
+        error 18 rowids spent\nerror 18 rowids spent\n\
+        error 10 vector column 1 wants 2 got 1\nerror 10 vector column 1 wants 2 got 1\n";
+    let (status, out) = ran(alloc, "shell", input.as_bytes(), &whole(50))?;
+    assert_eq!(rt; status, 2);
+    assert_eq!(rt; out.as_slice(), wanted.as_bytes());
     Ok(())
 }
 
@@ -162,8 +225,6 @@ fn faults_end_the_run(rt: HostRuntime) -> Result<(), Fail> {
     let input = format!(in alloc; "{TABLE}{ROWS}")?;
     let cases = [
         ("shell", 40, 2, 4096, 3, ""),
-        ("shell", 50, 2, 4096, 3, "ok\n"),
-        ("shell", 50, 3, 4096, 3, "ok\nrows 0\n"),
         ("shell", 50, 0, 0, 4, ""),
         ("shell", 50, 0, 5, 4, "ok\nro"),
         ("serve", 50, 0, 4096, 1, "error words\n"),
@@ -173,19 +234,81 @@ fn faults_end_the_run(rt: HostRuntime) -> Result<(), Fail> {
         let setting = Setting {
             piece,
             failing_read,
+            failing_write: 0,
             room,
         };
         let (status, out) = ran(alloc, word, input.as_bytes(), &setting)?;
-        assert_eq!(rt;
-            status,
-            wanted_status,
-            "{word} {piece} {failing_read} {room}"
-        );
-        assert_eq!(rt;
-            out.as_slice(),
-            wanted.as_bytes(),
-            "{word} {piece} {failing_read} {room}"
-        );
+        assert_eq!(rt; status, wanted_status);
+        assert_eq!(rt; out.as_slice(), wanted.as_bytes());
     }
+    Ok(())
+}
+
+/// Statements with their replies.
+const EXCHANGES: [(&str, &str); 10] = [
+    (TABLE, "ok\n"),
+    (
+        "INSERT INTO v(a) VALUES (vec_int8('[1,2]'));",
+        "ok inserted 1 last 1\n",
+    ),
+    (
+        "INSERT INTO v(a) VALUES (vec_int8('[3,4]'));",
+        "ok inserted 1 last 2\n",
+    ),
+    (ROWS, "1|vec_int8('[1,2]')\n2|vec_int8('[3,4]')\nrows 2\n"),
+    (TABLE, "error 6 table exists\n"),
+    (
+        ";SELECT rowid, distance FROM v WHERE a MATCH vec_int8('[0,0]') AND k = 2;",
+        "1|5\n2|25\nrows 2\n",
+    ),
+    ("DROP TABLE v;", "error 2 unsupported form\n"),
+    (
+        "INSERT INTO v(a) VALUES (vec_int8('[]'));",
+        "error 10 vector column 1 wants 2 got 0\n",
+    ),
+    ("SELECT #;", "error 1 syntax at 7\n"),
+    (SEVEN, "ok inserted 1 last 7\n"),
+];
+
+/// All statements, each filled up to 96 bytes.
+fn statements(alloc: Global) -> Result<Vec<u8>, Fail> {
+    let mut input = Vec::new(alloc);
+    for (statement, _) in EXCHANGES {
+        let filled = format!(in alloc; "{statement:96}")?;
+        input.extend_from_slice(filled.as_bytes())?;
+    }
+    Ok(input)
+}
+
+/// The replies to the first statements.
+fn replies(alloc: Global, count: usize) -> Result<Vec<u8>, Fail> {
+    let mut output = Vec::new(alloc);
+    for (_, reply) in EXCHANGES.iter().take(count) {
+        output.extend_from_slice(reply.as_bytes())?;
+    }
+    Ok(output)
+}
+
+#[test]
+fn a_fault_leaves_the_replies_before_it(rt: HostRuntime) -> Result<(), Fail> {
+    let alloc = rt.alloc();
+    let input = statements(alloc)?;
+    for before in 0..10usize {
+        let wanted = replies(alloc, before)?;
+        let call = before as u64 + 1;
+        for (failing_read, failing_write, wanted_status) in [(call, 0, 3), (0, call, 4)] {
+            let setting = Setting {
+                failing_read,
+                failing_write,
+                ..whole(96)
+            };
+            let (status, out) = ran(alloc, "shell", input.as_slice(), &setting)?;
+            assert_eq!(rt; status, wanted_status, "call {call}");
+            assert_eq!(rt; out.as_slice(), wanted.as_slice(), "call {call}");
+        }
+    }
+    let (status, out) = ran(alloc, "shell", input.as_slice(), &whole(96))?;
+    assert_eq!(rt; status, 2);
+    assert_eq!(rt; out.as_slice(), replies(alloc, 10)?.as_slice());
     Ok(())
 }

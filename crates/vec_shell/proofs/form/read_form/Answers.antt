@@ -1,6 +1,7 @@
+use Rattle.vec_shell.specs.FormsRead.{like_of}
 use Rattle.vec_shell.proofs.Reading.{form_read}
 use Rattle.vec_shell.proofs.form.read_form.Goals as goal
 
-pub returns : goal.returns
-returns c =
-    form_read c.args.text.now c.read_select.result c.if-text-gt-LIMIT.false c.in_default.ensures (rw c.in_default-2.is at c.in_ok-form.ensures) c.read_select.ensures
+pub returns-in-Some : goal.returns-in-Some
+returns-in-Some c =
+    form_read c.args.text.now (like_of c.in-Some.like) c.read_statement.result c.if-text-gt-LIMIT.false c.in-Some.ensures c.read_statement.ensures

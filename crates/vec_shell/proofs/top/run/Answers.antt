@@ -1,4 +1,4 @@
-use Rattle.std.proofs.Common.{◌≡◌, inl}
+use Rattle.std.proofs.Common.{inl}
 use Rattle.vec_shell.proofs.Causes.{ran_shell, none_refused, only_starved, some_refused}
 use Rattle.vec_shell.proofs.top.run.Goals as goal
 
