@@ -1,10 +1,10 @@
-//! One element after the other.
-ghost use Rattle.std.specs.Prelude.{◌≡◌, ◌*◌, ◌≤◌, length};
-ghost use Rattle.vec_base.specs.Distance.{gap as gap_of, gap_squared, l2_squared_of};
+//! What two bytes at one place give.
+ghost use Rattle.std.specs.Prelude.{◌≡◌, ◌≤◌};
+ghost use Rattle.vec_base.specs.Distance.{gap as gap_of, gap_squared, bits_apart as bits_apart_of};
 
 /// How far two elements are apart.
 #[inline(always)]
-fn gap(a: u8, b: u8) -> u32
+pub fn gap(a: u8, b: u8) -> u32
     ensures value { result ≡ gap_of a b }
     ensures bound { result ≤ 255 }
 {
@@ -13,7 +13,7 @@ fn gap(a: u8, b: u8) -> u32
 
 /// The square of the difference of two elements.
 #[inline(always)]
-fn square(a: u8, b: u8) -> u32
+pub fn square(a: u8, b: u8) -> u32
     ensures value { result ≡ gap_squared a b }
     ensures bound { result ≤ 65025 }
 {
@@ -21,16 +21,11 @@ fn square(a: u8, b: u8) -> u32
     gap * gap
 }
 
-/// The sum of the squared differences.
-pub fn add_up(a: &[u8], b: &[u8]) -> u32
-    requires same_length { length a.now ≡ length b.now }
-    requires short { length a.now ≤ 8192 }
-    ensures value { result ≡ l2_squared_of a.now b.now }
-    ensures bound { result ≤ 65025 * length a.now }
+/// The number of bits in which two bytes differ.
+#[inline(always)]
+pub fn bits_apart(a: u8, b: u8) -> u32
+    ensures value { result ≡ bits_apart_of a b }
+    ensures bound { result ≤ 8 }
 {
-    let mut total: u32 = 0;
-    for place in 0..a.len() {
-        total += square(a[place], b[place]);
-    }
-    total
+    (a ^ b).count_ones()
 }
