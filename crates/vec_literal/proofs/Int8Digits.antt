@@ -1,13 +1,13 @@
--- Digits without a leading zero are what `decimal` writes of their value.
+-- The decimal text of a number spells it.
 use Rattle.std.proofs.Common.{◌≡◌, ℕ, ◌^◌, ◌<◌, length, get_or, eqb, true, false, not, ◌&&◌, inl, inr, List, [], ◌∷◌, refl, sym, ap, subst, arith, rules}
 use Rattle.std.specs.Prelude.{pos, ◌-ℤ◌}
 use Rattle.std.specs.Char.{is_ascii_digit}
 use Rattle.std.specs.Fmt.{decimal}
 use Rattle.std.specs.List.{list_all}
 use Rattle.std.specs.Str.Parse.{digits_value}
-use Rattle.std.proofs.lemmas.Bool.{and_parts, and_from, eqb-false, ne_eqb, not-true, not_from_false, cases_lt}
+use Rattle.std.proofs.lemmas.Bool.{and_parts, and_from, ne_eqb, not_from_false, cases_lt}
 use Rattle.std.proofs.lemmas.Bool.Decides.{nat_tests}
-use Rattle.std.proofs.lemmas.Fmt.{decimal_digit, decimal_nonempty, first_decimal, digits_decimal, digits_value-decimal, decimal-digits_value}
+use Rattle.std.proofs.lemmas.Fmt.{decimal_digit, decimal_nonempty, first_decimal, digits_decimal, digits_value-decimal}
 use Rattle.std.proofs.lemmas.Str.Parse.{IsDigitsTest, IsNumeralModel, numerals_by_value}
 use Rattle.vec_literal.specs.Int8.{is_digits, SpellsNumber}
 
@@ -26,16 +26,6 @@ own = numerals_by_value (λ ds. list_all is_ascii_digit ds ≡ true) tells_digit
 abbrev Parts : List ℕ → Type 0
 Parts ds = AreDigits ds × (0 < length ds) × (get_or ds 0 0 ≡ 48 → length ds ≡ 1)
 
-digits_parts : (ds : List ℕ) → is_digits ds ≡ true → Parts ds
-digits_parts [] h = absurd (let f : false ≡ true = h in cc)
-digits_parts (d ∷ []) h = (and_from (is_ascii_digit d) true h refl, omega arith, λ _. refl)
-digits_parts (d ∷ e ∷ ds) h =
-    let rest = list_all is_ascii_digit (e ∷ ds) in
-    let k = and_parts (is_ascii_digit d && not (eqb d 48)) rest h in
-    let l = and_parts (is_ascii_digit d) (not (eqb d 48)) k.0 in
-    let other : eqb d 48 ≡ false = not-true (eqb d 48) l.1 in
-    (and_from (is_ascii_digit d) rest l.0 k.1, omega arith, λ zero. absurd (eqb-false d 48 other zero))
-
 digits_from : (ds : List ℕ) → Parts ds → is_digits ds ≡ true
 digits_from [] h = absurd (let f : 0 < 0 = h.1 in omega arith)
 digits_from (d ∷ []) h = let k = and_parts (is_ascii_digit d) true h.0 in k.0
@@ -44,12 +34,6 @@ digits_from (d ∷ e ∷ ds) h =
     let k = and_parts (is_ascii_digit d) rest h.0 in
     let other : eqb d 48 ≡ false = ne_eqb d 48 (λ zero. let one = h.2 zero in omega arith) in
     and_from (is_ascii_digit d && not (eqb d 48)) rest (and_from (is_ascii_digit d) (not (eqb d 48)) k.0 (not_from_false (eqb d 48) other)) k.1
-
--- such digits are the decimal text of their value
-pub digits_shown : (ds : List ℕ) → is_digits ds ≡ true → digits_value 10 ds < 2 ^ 64 → ds ≡ decimal (digits_value 10 ds)
-digits_shown ds h few =
-    let p = digits_parts ds h in
-    sym (decimal-digits_value own ds p.0 p.1 p.2 few)
 
 -- the decimal text of a number is such digits
 decimal_digits : (n : ℕ) → n < 2 ^ 64 → is_digits (decimal n) ≡ true

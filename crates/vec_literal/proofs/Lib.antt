@@ -1,8 +1,11 @@
+pub mod BitsLaws
 pub mod Int8Complete
 pub mod Int8Digits
 pub mod Int8Elements
+pub mod Int8Kept
 pub mod Int8Laws
 pub mod Int8Sound
+pub mod Int8Worked
 pub mod Int8Written
 pub mod Lexing
 pub mod Marks

@@ -1,5 +1,5 @@
 -- The literal of an int8 vector: numbers from -128 to 127 in brackets, as `[1, -2]`.
-use Rattle.std.specs.Prelude.{◌≡◌, ◌⊎◌, ℕ, ℤ, pos, negsuc, ◌-ℤ◌, ◌≤ℤ◌, Bool, true, false, not, ◌&&◌, ◌||◌, ◌==◌, List, [], ◌∷◌, ◌++◌, map, All}
+use Rattle.std.specs.Prelude.{◌≡◌, ◌⊎◌, ℕ, ◌<◌, ◌≤◌, length, take, get_or, ℤ, pos, negsuc, ◌-ℤ◌, ◌≤ℤ◌, Bool, true, false, not, ◌&&◌, ◌||◌, ◌==◌, List, [], ◌∷◌, ◌++◌, map, All}
 use Rattle.std.specs.Char.{is_ascii_digit}
 use Rattle.std.specs.Fmt.{signed_decimal}
 use Rattle.std.specs.Int.{w8, cast_signed, cast_unsigned}
@@ -66,6 +66,26 @@ pub record SpellsInt8 (text vector : List ℕ) : Type 0 where
   pub list : SpellsList text elements
   pub fit : All IsElement elements
   pub bytes : vector ≡ map (cast_unsigned w8) elements
+
+-- the text is a list of integers, of any size
+abbrev pub IsInForm : List ℕ → Type 0
+IsInForm text = (elements : List ℤ) × SpellsList text elements
+
+-- some more bytes, or none, make of the text one in the form
+abbrev pub CanGoOn : List ℕ → Type 0
+CanGoOn text = (more : List ℕ) × IsInForm (text ++ more)
+
+-- the length of the longest beginning of the text that can go on
+pub record IsLongestStart (text : List ℕ) (n : ℕ) : Type 0 where
+  pub within : n ≤ length text
+  pub goes_on : CanGoOn (take n text)
+  pub longest : (m : ℕ) → m ≤ length text → CanGoOn (take m text) → m ≤ n
+
+-- the index of the first element that is outside -128 to 127
+pub record IsFirstMisfit (elements : List ℤ) (index : ℕ) : Type 0 where
+  pub within : index < length elements
+  pub misfit : IsElement (get_or elements index (pos 0)) → ⊥
+  pub first : All IsElement (take index elements)
 
 -- the elements in decimal, separated by commas
 abbrev pub elements_text : List ℕ → List ℕ

@@ -1,5 +1,6 @@
 -- Reading an int8 literal byte by byte. Only clauses of private functions speak of it: proofs/Int8Sound.antt and
--- proofs/Int8Complete.antt show that it reads just the texts that SpellsInt8 allows.
+-- proofs/Int8Complete.antt show that it reads just the texts in the form, and proofs/Int8Laws.antt that it answers with
+-- just the vectors that SpellsInt8 allows and the faults that IsInt8Fault allows.
 use Rattle.std.specs.Prelude.{◌≡◌, MatchBool, ℕ, ◌+◌, ◌-◌, ◌*◌, ◌%◌, Bool, true, false, if◌then◌else◌, ◌==◌, nat_lt, nat_le, List, [], ◌∷◌, ◌++◌, length, Option, Some, None, Result, Ok, Err}
 use Rattle.std.specs.Option.{option_map, option_and_then}
 use Rattle.std.specs.Char.{is_ascii_digit}

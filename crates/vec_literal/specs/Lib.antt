@@ -1,3 +1,4 @@
+pub mod Bits
 pub mod Faults
 pub mod Int8
 pub mod Int8Reading

@@ -1,8 +1,10 @@
-ghost use Rattle.std.specs.Prelude.{◌≡◌, ℕ, [], ◌++◌, List, IfOk, OnOk, string_bytes};
+ghost use Rattle.std.specs.Prelude.{◌≡◌, ◌⊎◌, ℕ, [], ◌++◌, List, IfOk, IfErr, OnOk, string_bytes};
 ghost use Rattle.std.specs.Fmt.{signed_decimal};
 ghost use Rattle.std.specs.Int.{w8, cast_signed};
 ghost use Rattle.vec_literal.specs.Int8.{SpellsInt8, int8_text, is_space};
-ghost use Rattle.vec_literal.specs.Faults.{ReadsAs};
+ghost use Rattle.vec_literal.specs.declared.int8.LitFault.{LitFault as Fault};
+ghost use Rattle.vec_literal.specs.declared.int8.LitFault.TheVariants.{Memory as WantOfMemory};
+ghost use Rattle.vec_literal.specs.Faults.{ReadsAs, FaultsAs, IsInt8Fault};
 ghost use Rattle.vec_literal.specs.Int8Reading.{number_start, first_digit, after_element};
 
 use std::alloc::{AllocError, Global};
@@ -11,18 +13,18 @@ use vec_base::{Bytes, Memory, Txt};
 /// Why a literal is not read.
 #[derive(Clone, Copy, Debug, PartialEq, Eq)]
 pub enum LitFault {
-    /// The text is not in the form; the number of its first bytes that some literal begins with.
+    /// The text is not in the form. Of an int8 literal the number of its first bytes that some literal begins with, of
+    /// a bit literal the index of its first byte that is no hexadecimal digit.
     Place(usize),
-    /// The form is right and an element does not fit; the index of the first such element.
+    /// The form is right and an element is outside -128 to 127; the index of the first such element.
     Range(usize),
-    /// The number of hexadecimal digits is odd.
+    /// The number of bytes is odd, in place of two digits for each byte.
     OddHex,
+    /// There was not enough memory.
     Memory,
 }
 
 impl From<Memory> for LitFault {
-    ghost use Rattle.vec_literal.specs.declared.int8.LitFault.TheVariants.{Memory as WantOfMemory};
-
     ghost from_gives = { λ _ e. e ≡ WantOfMemory };
 
     fn from(_: Memory) -> Self {
@@ -31,9 +33,12 @@ impl From<Memory> for LitFault {
 }
 
 /// The vector that the text spells, one byte for each element.
+/// `Place` where the text is not in the form, whatever its numbers, and `Range` where only a number is too large.
 pub fn read_int8(alloc: Global, text: &[u8]) -> Result<Bytes, LitFault>
     ensures found { IfOk result (λ vector. SpellsInt8 text.now vector) }
     ensures only { (vector : List ℕ) → SpellsInt8 text.now vector → ReadsAs result vector }
+    ensures fault { IfErr result (λ fault. (fault ≡ WantOfMemory) ⊎ IsInt8Fault text.now fault) }
+    ensures only_fault { (fault : Fault) → IsInt8Fault text.now fault → FaultsAs result fault }
 {
     let mut reader = Reader::new(alloc);
     for (place, byte) in text.iter().enumerate() {

@@ -1,0 +1,69 @@
+ghost use Rattle.std.specs.Prelude.{◌≡◌, ◌⊎◌, ℕ, List, IfOk, IfErr};
+ghost use Rattle.hex.specs.Hex.{encode_upper};
+ghost use Rattle.vec_literal.specs.declared.int8.LitFault.{LitFault as Fault};
+ghost use Rattle.vec_literal.specs.declared.int8.LitFault.TheVariants.{Memory as WantOfMemory};
+ghost use Rattle.vec_literal.specs.Bits.{SpellsBits, IsBitsFault};
+ghost use Rattle.vec_literal.specs.Faults.{ReadsAs, FaultsAs};
+
+use crate::int8::LitFault;
+use hex::FromHexError;
+use std::alloc::Global;
+use vec_base::{Bytes, Memory, Txt};
+
+/// The bytes that the text spells, two hexadecimal digits of either case for each, the higher first.
+/// `OddHex` where the length of the text is odd, else `Place` with the index of the first byte that is no digit.
+pub fn read_bits(alloc: Global, text: &[u8]) -> Result<Bytes, LitFault>
+    ensures found { IfOk result (λ vector. SpellsBits text.now vector) }
+    ensures only { (vector : List ℕ) → SpellsBits text.now vector → ReadsAs result vector }
+    ensures fault { IfErr result (λ fault. (fault ≡ WantOfMemory) ⊎ IsBitsFault text.now fault) }
+    ensures only_fault { (fault : Fault) → IsBitsFault text.now fault → FaultsAs result fault }
+{
+    match hex::decode(alloc, text) {
+        Ok(bytes) => Ok(Bytes::from_vec(bytes)),
+        Err(FromHexError::InvalidHexCharacter { index, .. }) => Err(LitFault::Place(index)),
+        Err(FromHexError::OddLength) => Err(LitFault::OddHex),
+        Err(_) => Err(LitFault::Memory),
+    }
+}
+
+/// The upper-case hexadecimal digits of the bytes, two for each. Reading them gives the bytes.
+pub fn write_bits(alloc: Global, vector: &[u8]) -> Result<Txt, Memory>
+    ensures text { IfOk result (λ t. t ≡ encode_upper vector.now) }
+    ensures reads_back { IfOk result (λ t. SpellsBits t vector.now) }
+{
+    Ok(Txt::from_string(hex::encode_upper(alloc, vector)?))
+}
+
+#[cfg(test)]
+mod tests {
+    use super::*;
+
+    /// Whether reading the text gives the bytes or the fault.
+    fn reads(rt: &HostRuntime, text: &[u8], wanted: Result<&[u8], LitFault>) -> bool {
+        match (read_bits(rt.alloc(), text), wanted) {
+            (Ok(vector), Ok(bytes)) => vector.as_slice() == bytes,
+            (Err(fault), Err(other)) => fault == other,
+            _ => false,
+        }
+    }
+
+    #[test]
+    fn reads_and_writes_digits(rt: HostRuntime) {
+        let cases: [(&[u8], Result<&[u8], LitFault>); 7] = [
+            (b"", Ok(&[])),
+            (b"0f", Ok(&[15])),
+            (b"aBFF", Ok(&[171, 255])),
+            (b"0", Err(LitFault::OddHex)),
+            (b"0g0", Err(LitFault::OddHex)),
+            (b"0g", Err(LitFault::Place(1))),
+            (b"00:0", Err(LitFault::Place(2))),
+        ];
+        for (text, wanted) in cases {
+            assert!(rt; reads(&rt, text, wanted));
+        }
+        match write_bits(rt.alloc(), &[15, 160]) {
+            Ok(text) => assert!(rt; text.as_text() == "0FA0"),
+            Err(_) => assert!(rt; false),
+        }
+    }
+}
