@@ -1,3 +1,4 @@
 pub mod RowLaws
+pub mod RuleExamples
 pub mod RunLaws
 pub mod Worked

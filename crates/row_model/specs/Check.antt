@@ -1,5 +1,5 @@
 -- What refuses a statement by its values and the schema alone.
-use Rattle.std.specs.Prelude.{ℕ, pos, int_le, not, ◌&&◌, ◌==◌, if◌then◌else◌, List, [], ◌∷◌, ◌++◌, length, min}
+use Rattle.std.specs.Prelude.{ℕ, ◌*◌, pos, int_le, not, ◌&&◌, ◌==◌, if◌then◌else◌, List, [], ◌∷◌, ◌++◌, length, min}
 use Rattle.std.specs.List.{flat_map}
 use Rattle.std.specs.declared.option.Option.{Option}
 use Rattle.vec_base.specs.declared.refusal.Refusal.{Refusal}
@@ -8,7 +8,7 @@ use Rattle.vec_base.specs.declared.value.Value.{Value}
 use Rattle.vec_base.specs.declared.value.Value.TheVariants.{Null, Int, Text, Blob, Int8, Bits}
 use Rattle.row_model.specs.declared.schema.Column.{Column}
 use Rattle.row_model.specs.declared.schema.Kind.{Kind}
-use Rattle.row_model.specs.declared.schema.Kind.TheVariants.{Int8Vector}
+use Rattle.row_model.specs.declared.schema.Kind.TheVariants.{IntKey, TextKey, Int8Vector, BitVector, IntPartition, TextPartition, IntMeta, TextMeta, BoolMeta, IntAux, TextAux, BlobAux}
 use Rattle.row_model.specs.declared.schema.Place.{Place}
 use Rattle.row_model.specs.declared.schema.Place.TheVariants.{Unknown, Rowid, Declared, Count, Distance}
 use Rattle.row_model.specs.declared.statement.Insert.{Insert}
@@ -32,8 +32,30 @@ shape_faults number width (Text text) = []
 shape_faults number width (Blob bytes) = []
 shape_faults number width (Bits bits) = []
 
+-- a vector of another number of bits than its column's; each byte holds eight
+abbrev pub bit_faults : ℕ → ℕ → Value → List Refusal
+bit_faults number width (Bits bytes) = when (not (8 * length bytes == width)) (VectorShape number width (capped (8 * length bytes)))
+bit_faults number width Null = []
+bit_faults number width (Int n) = []
+bit_faults number width (Text text) = []
+bit_faults number width (Blob bytes) = []
+bit_faults number width (Int8 vector) = []
+
+-- What refuses a value in a column of the kind. Only the shapes of vectors are looked at: no statement that is read so far
+-- makes a table with columns of the other kinds.
 abbrev pub kind_faults : ℕ → Kind → Value → List Refusal
 kind_faults number (Int8Vector width metric) value = shape_faults number width value
+kind_faults number (BitVector width) value = bit_faults number width value
+kind_faults number IntKey value = []
+kind_faults number TextKey value = []
+kind_faults number IntPartition value = []
+kind_faults number TextPartition value = []
+kind_faults number IntMeta value = []
+kind_faults number TextMeta value = []
+kind_faults number BoolMeta value = []
+kind_faults number IntAux value = []
+kind_faults number TextAux value = []
+kind_faults number BlobAux value = []
 
 -- what refuses a value at a place
 abbrev pub value_faults : Place → Value → List Refusal

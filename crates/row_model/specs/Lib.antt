@@ -1,4 +1,5 @@
 pub mod Answer
+pub mod Canonical
 pub mod Change
 pub mod Check
 pub mod Columns
@@ -6,4 +7,5 @@ pub mod Lists
 pub mod Machine
 pub mod RefusalTexts
 pub mod Rows
+pub mod Schemas
 pub mod Shelled

@@ -1,4 +1,6 @@
 pub mod BitsLaws
+pub mod Decimals
+pub mod Following
 pub mod Int8Complete
 pub mod Int8Digits
 pub mod Int8Elements

@@ -2,5 +2,6 @@ pub mod Bits
 pub mod Faults
 pub mod Int8
 pub mod Int8Reading
+pub mod Lexemes
 pub mod Stretches
 pub mod Tokens

@@ -8,6 +8,7 @@ use Rattle.row_model.specs.declared.statement.Statement.TheVariants.{Create, Ins
 
 abbrev pub kind_width : Kind → ℕ
 kind_width (Int8Vector width metric) = width
+kind_width other = 0
 
 abbrev pub first_width : List Column → ℕ
 first_width [] = 0

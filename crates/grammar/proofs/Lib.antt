@@ -1,0 +1,5 @@
+pub mod Factoring
+pub mod Laws
+pub mod Lexemes
+pub mod Loops
+pub mod Places

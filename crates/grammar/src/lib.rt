@@ -1,0 +1,10 @@
+//! Grammars as data, and a reader of tokens with one of them at hand.
+#![tactic(auto)]
+
+mod reader;
+mod words;
+
+pub use reader::{Reader, Stop};
+
+#[cfg(test)]
+mod tests;

@@ -1,0 +1,5 @@
+pub mod CanonicalLexemes
+pub mod Columns
+pub mod Factored
+pub mod Narrowed
+pub mod Parts

@@ -1,0 +1,15 @@
+//! The columns of a table: the text that declares them, and the rules that they keep.
+#![tactic(auto)]
+
+mod meaning;
+mod read;
+mod rule;
+mod text;
+mod write;
+
+pub use read::{read_columns, read_columns_at};
+pub use rule::schema_rule;
+pub use write::write_columns;
+
+#[cfg(test)]
+mod tests;

@@ -1,0 +1,245 @@
+ghost use Rattle.std.specs.Prelude.{◌≡◌};
+ghost use Rattle.row_model.specs.Schemas.{is_key, is_vector, is_partition, is_metadata, is_auxiliary, count_of, has_some, has_column, has_twins, is_hidden_name, takes_hidden_name, is_eights, is_misfit_int8, is_misfit_bits, schema_fault};
+
+use row_model::{Column, Kind, Schema};
+
+/// The number of the least rule that the schema breaks, or `None` where it breaks none: 1 without a vector column; 2 to 5
+/// with more than 16 vector, 4 partition, 16 metadata or 16 auxiliary columns; 6 with more than one key; 7 where two
+/// columns have one name; 8 where one is named `rowid`, `distance` or `k`; 9 and 10 where a vector of bytes or of bits has
+/// a size out of range; 12 where the chunk size is.
+pub fn schema_rule(schema: &Schema) -> Option<u8>
+    ensures { result ≡ schema_fault schema.now }
+{
+    let columns = schema.columns.as_slice();
+    if count_vectors(columns) == 0 {
+        Some(1)
+    } else if count_vectors(columns) > 16 {
+        Some(2)
+    } else if count_partitions(columns) > 4 {
+        Some(3)
+    } else if count_metadata(columns) > 16 {
+        Some(4)
+    } else if count_auxiliaries(columns) > 16 {
+        Some(5)
+    } else if count_keys(columns) > 1 {
+        Some(6)
+    } else if has_twins(columns) {
+        Some(7)
+    } else if takes_hidden_name(columns) {
+        Some(8)
+    } else if has_misfit_int8(columns) {
+        Some(9)
+    } else if has_misfit_bits(columns) {
+        Some(10)
+    } else if !is_eights(4096, schema.chunk_size) {
+        Some(12)
+    } else {
+        None
+    }
+}
+
+fn count_keys(columns: &[Column]) -> usize
+    ensures { result ≡ count_of is_key columns.now }
+{
+    columns
+        .iter()
+        .filter(|column| matches!(column.kind, Kind::IntKey | Kind::TextKey))
+        .count()
+}
+
+fn count_vectors(columns: &[Column]) -> usize
+    ensures { result ≡ count_of is_vector columns.now }
+{
+    columns
+        .iter()
+        .filter(|column| matches!(column.kind, Kind::Int8Vector(..) | Kind::BitVector(_)))
+        .count()
+}
+
+fn count_partitions(columns: &[Column]) -> usize
+    ensures { result ≡ count_of is_partition columns.now }
+{
+    columns
+        .iter()
+        .filter(|column| matches!(column.kind, Kind::IntPartition | Kind::TextPartition))
+        .count()
+}
+
+fn count_metadata(columns: &[Column]) -> usize
+    ensures { result ≡ count_of is_metadata columns.now }
+{
+    columns
+        .iter()
+        .filter(|column| matches!(column.kind, Kind::IntMeta | Kind::TextMeta | Kind::BoolMeta))
+        .count()
+}
+
+fn count_auxiliaries(columns: &[Column]) -> usize
+    ensures { result ≡ count_of is_auxiliary columns.now }
+{
+    columns
+        .iter()
+        .filter(|column| matches!(column.kind, Kind::IntAux | Kind::TextAux | Kind::BlobAux))
+        .count()
+}
+
+/// Whether a column has the name.
+fn has_column(name: &str, columns: &[Column]) -> bool
+    ensures { result ≡ has_column name.now columns.now }
+{
+    columns.iter().any(|column| column.name.as_text() == name)
+}
+
+/// Whether two columns have one name.
+fn has_twins(columns: &[Column]) -> bool
+    ensures { result ≡ has_twins columns.now }
+{
+    let Some((first, others)) = columns.split_first() else {
+        return false;
+    };
+    if has_column(first.name.as_text(), others) {
+        return true;
+    }
+    has_twins(others)
+}
+
+/// Whether the name means something else in every table.
+fn is_hidden_name(name: &str) -> bool
+    ensures { result ≡ is_hidden_name name.now }
+{
+    matches!(name, "rowid" | "distance" | "k")
+}
+
+/// Whether a column has a name that means something else in every table.
+fn takes_hidden_name(columns: &[Column]) -> bool
+    ensures { result ≡ takes_hidden_name columns.now }
+{
+    columns
+        .iter()
+        .any(|column| is_hidden_name(column.name.as_text()))
+}
+
+/// Whether the number is a multiple of 8 from 8 up to the most.
+fn is_eights(most: u16, number: u16) -> bool
+    ensures { result ≡ is_eights most number }
+{
+    number % 8 == 0 && 8 <= number && number <= most
+}
+
+/// Whether the column holds vectors of bytes of a size that is out of range.
+fn is_misfit_int8(kind: Kind) -> bool
+    ensures { result ≡ is_misfit_int8 kind }
+{
+    match kind {
+        Kind::Int8Vector(width, _) => !(1 <= width && width <= 8192),
+        _ => false,
+    }
+}
+
+/// Whether the column holds vectors of bits of a size that is out of range.
+fn is_misfit_bits(kind: Kind) -> bool
+    ensures { result ≡ is_misfit_bits kind }
+{
+    match kind {
+        Kind::BitVector(width) => !is_eights(8192, width),
+        _ => false,
+    }
+}
+
+/// Whether a column of vectors of bytes has a size that is out of range.
+fn has_misfit_int8(columns: &[Column]) -> bool
+    ensures { result ≡ has_some is_misfit_int8 columns.now }
+{
+    columns.iter().any(|column| is_misfit_int8(column.kind))
+}
+
+/// Whether a column of vectors of bits has a size that is out of range.
+fn has_misfit_bits(columns: &[Column]) -> bool
+    ensures { result ≡ has_some is_misfit_bits columns.now }
+{
+    columns.iter().any(|column| is_misfit_bits(column.kind))
+}
+
+#[cfg(test)]
+mod tests {
+    use super::*;
+    use row_model::Metric;
+    use std::alloc::Global;
+    use vec_base::{List, Memory, Txt};
+
+    const BYTES: Kind = Kind::Int8Vector(2, Metric::L2);
+
+    /// So many columns of a kind, whose names are the word once, twice and so on.
+    type Group = (&'static str, Kind, usize);
+
+    /// Groups of columns, a chunk size, and the rule that is to be answered.
+    const CASES: [(&[Group], u16, Option<u8>); 18] = [
+        (&[("e", BYTES, 1)], 1024, None),
+        (&[("a", Kind::TextMeta, 1)], 1024, Some(1)),
+        (&[("a", BYTES, 9), ("b", Kind::BitVector(8), 8)], 8, Some(2)),
+        (&[("e", BYTES, 1), ("p", Kind::IntPartition, 5)], 8, Some(3)),
+        (&[("e", BYTES, 1), ("m", Kind::BoolMeta, 17)], 8, Some(4)),
+        (&[("e", BYTES, 1), ("x", Kind::BlobAux, 17)], 8, Some(5)),
+        (
+            &[
+                ("i", Kind::IntKey, 1),
+                ("e", BYTES, 1),
+                ("t", Kind::TextKey, 1),
+            ],
+            8,
+            Some(6),
+        ),
+        (&[("e", BYTES, 2), ("ee", Kind::IntAux, 1)], 8, Some(7)),
+        (&[("e", BYTES, 1), ("rowid", Kind::TextAux, 1)], 8, Some(8)),
+        (&[("distance", BYTES, 1)], 8, Some(8)),
+        (&[("k", BYTES, 1)], 8, Some(8)),
+        (&[("e", Kind::Int8Vector(8193, Metric::L1), 1)], 8, Some(9)),
+        (&[("e", Kind::BitVector(12), 1)], 8, Some(10)),
+        (&[("e", BYTES, 1)], 4104, Some(12)),
+        (&[("e", BYTES, 1)], 9, Some(12)),
+        (&[("e", Kind::Int8Vector(0, Metric::L2), 17)], 0, Some(2)),
+        (
+            &[
+                ("b", Kind::BitVector(9), 1),
+                ("e", Kind::Int8Vector(0, Metric::L2), 1),
+            ],
+            0,
+            Some(9),
+        ),
+        (
+            &[
+                ("e", BYTES, 16),
+                ("t", Kind::TextKey, 1),
+                ("p", Kind::TextPartition, 4),
+            ],
+            4096,
+            None,
+        ),
+    ];
+
+    fn schema_of(alloc: Global, groups: &[Group], chunk_size: u16) -> Result<Schema, Memory> {
+        let mut columns = List::new(alloc);
+        for (word, kind, count) in groups {
+            let mut name = String::new(alloc);
+            for _ in 0..*count {
+                name.push_str(word)?;
+                let name = Txt::from_text(alloc, name.as_str())?;
+                columns.push(Column { name, kind: *kind })?;
+            }
+        }
+        Ok(Schema {
+            columns,
+            chunk_size,
+        })
+    }
+
+    #[test]
+    fn the_least_rule_is_answered(rt: HostRuntime) {
+        for (groups, chunk_size, wanted) in CASES {
+            match schema_of(rt.alloc(), groups, chunk_size) {
+                Ok(schema) => assert!(rt; schema_rule(&schema) == wanted),
+                Err(_) => assert!(rt; false),
+            }
+        }
+    }
+}
