@@ -72,10 +72,20 @@ const READ: [(&str, &str); 7] = [
 ];
 
 /// Texts and their refusals.
-const REFUSED: [(&str, &str); 39] = [
+const REFUSED: [(&str, &str); 51] = [
     ("", "Syntax(0)"),
     (" a ", "Syntax(3)"),
     ("a int8", "Syntax(6)"),
+    ("a int8[", "Syntax(7)"),
+    ("a int8[2", "Syntax(8)"),
+    ("a int8[2] distance_metric", "Syntax(25)"),
+    ("a int8[2] distance_metric=", "Syntax(26)"),
+    ("a bit[8], i int primary", "Syntax(23)"),
+    ("a bit[8], t text partition", "Syntax(26)"),
+    ("+", "Syntax(1)"),
+    ("+a", "Syntax(2)"),
+    ("chunk_size", "Syntax(10)"),
+    ("chunk_size=", "Syntax(11)"),
     ("a int8[2] ,", "Syntax(11)"),
     ("a int8[2] b int", "Syntax(10)"),
     ("a int8[2] distance_metric l2", "Syntax(26)"),
@@ -95,7 +105,8 @@ const REFUSED: [(&str, &str); 39] = [
     ("a bit[8], x'0", "Syntax(10)"),
     ("a OR", "Unsupported(1)"),
     ("a bit[8] default", "Unsupported(34)"),
-    ("a float[2]", "Unsupported(23)"),
+    ("a float[4]", "Unsupported(23)"),
+    ("a int8[4] distance_metric=cosine", "Unsupported(27)"),
     ("a text", "BadSchema(1)"),
     (
         "a int primary key, b text primary key, v bit[8]",
@@ -111,6 +122,7 @@ const REFUSED: [(&str, &str); 39] = [
     ("a int8[9223372036854775807]", "BadSchema(9)"),
     ("a bit[12]", "BadSchema(10)"),
     ("a bit[65544] distance_metric=l2", "BadSchema(10)"),
+    ("a bit[8] distance_metric=l2", "BadSchema(11)"),
     ("a bit[8] distance_metric=l1, chunk_size=0", "BadSchema(11)"),
     ("a bit[8], chunk_size=8, chunk_size=8", "BadSchema(12)"),
     ("a bit[8], chunk_size=4104", "BadSchema(12)"),
@@ -157,7 +169,7 @@ fn texts_are_read_or_refused(rt: HostRuntime) -> Result<(), Fail> {
     for (text, wanted) in read {
         assert_eq!(rt; told(alloc, text)?.as_str(), wanted);
     }
-    let refused: [(&str, &str); 39] = REFUSED;
+    let refused: [(&str, &str); 51] = REFUSED;
     for (text, wanted) in refused {
         assert_eq!(rt; told(alloc, text)?.as_str(), wanted);
     }
