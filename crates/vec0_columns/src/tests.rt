@@ -1,6 +1,7 @@
 use super::*;
 use row_model::Schema;
 use std::alloc::Global;
+use std::process::Abort;
 use std::test::Fail;
 use vec_base::Refusal;
 
@@ -72,7 +73,7 @@ const READ: [(&str, &str); 7] = [
 ];
 
 /// Texts and their refusals.
-const REFUSED: [(&str, &str); 51] = [
+const REFUSED: [(&str, &str); 63] = [
     ("", "Syntax(0)"),
     (" a ", "Syntax(3)"),
     ("a int8", "Syntax(6)"),
@@ -107,6 +108,18 @@ const REFUSED: [(&str, &str); 51] = [
     ("a bit[8] default", "Unsupported(34)"),
     ("a float[4]", "Unsupported(23)"),
     ("a int8[4] distance_metric=cosine", "Unsupported(27)"),
+    ("a", "Syntax(1)"),
+    ("a bit", "Syntax(5)"),
+    ("a bit[", "Syntax(6)"),
+    ("a bit[8", "Syntax(7)"),
+    ("a bit[8],", "Syntax(9)"),
+    ("a bit[8] distance_metric=", "Syntax(25)"),
+    ("9 int", "Syntax(0)"),
+    ("a int8[]", "Syntax(7)"),
+    ("a int8(2)", "Syntax(6)"),
+    ("a int8[2],, b int", "Syntax(10)"),
+    ("+ + a int", "Syntax(2)"),
+    ("chunk_size=8 8", "Syntax(13)"),
     ("a text", "BadSchema(1)"),
     (
         "a int primary key, b text primary key, v bit[8]",
@@ -169,16 +182,16 @@ fn texts_are_read_or_refused(rt: HostRuntime) -> Result<(), Fail> {
     for (text, wanted) in read {
         assert_eq!(rt; told(alloc, text)?.as_str(), wanted);
     }
-    let refused: [(&str, &str); 51] = REFUSED;
+    let refused: [(&str, &str); 63] = REFUSED;
     for (text, wanted) in refused {
         assert_eq!(rt; told(alloc, text)?.as_str(), wanted);
     }
-    Ok(())
+    columns_are_counted(&rt, alloc)?;
+    unsupported_words_are_told_by_their_numbers(&rt, alloc)?;
+    long_names_and_long_texts_are_refused(&rt, alloc)
 }
 
-#[test]
-fn columns_are_counted(rt: HostRuntime) -> Result<(), Fail> {
-    let alloc = rt.alloc();
+fn columns_are_counted(rt: &impl Abort, alloc: Global) -> Result<(), Fail> {
     for (count, before, kind, wanted) in [
         (16usize, "", "int8[1]", "BadSchema(2)"),
         (5, "", "int partition key", "BadSchema(3)"),
@@ -193,9 +206,7 @@ fn columns_are_counted(rt: HostRuntime) -> Result<(), Fail> {
     Ok(())
 }
 
-#[test]
-fn unsupported_words_are_told_by_their_numbers(rt: HostRuntime) -> Result<(), Fail> {
-    let alloc = rt.alloc();
+fn unsupported_words_are_told_by_their_numbers(rt: &impl Abort, alloc: Global) -> Result<(), Fail> {
     let words: [&str; 34] = UNSUPPORTED;
     let mut number = 0u8;
     for word in words {
@@ -215,9 +226,7 @@ fn unsupported_words_are_told_by_their_numbers(rt: HostRuntime) -> Result<(), Fa
     Ok(())
 }
 
-#[test]
-fn long_names_and_long_texts_are_refused(rt: HostRuntime) -> Result<(), Fail> {
-    let alloc = rt.alloc();
+fn long_names_and_long_texts_are_refused(rt: &impl Abort, alloc: Global) -> Result<(), Fail> {
     for (count, wanted) in [(64usize, true), (65, false)] {
         let mut text = String::new(alloc);
         for _ in 0..count {

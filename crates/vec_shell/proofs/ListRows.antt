@@ -1,5 +1,5 @@
 -- What a new row leaves of what is kept of the rows of a list.
-use Rattle.std.proofs.Common.{◌≡◌, ℕ, ◌<◌, zero, suc, ℤ, int_lt, Bool, true, false, not, ◌||◌, if◌then◌else◌, List, [], ◌∷◌, ◌++◌, length, get_or, ◌==◌, eq-eqb, refl, ap, ap₂, ◌∙◌, arith}
+use Rattle.std.proofs.Common.{◌≡◌, ℕ, ℤ, int_lt, Bool, true, false, not, if◌then◌else◌, List, [], ◌∷◌, ◌++◌, length, ◌==◌, eq-eqb, refl, ap, ap₂, ◌∙◌, arith}
 use Rattle.std.specs.List.{list_all}
 use Rattle.std.specs.Int.{int_max}
 use Rattle.std.specs.Ordering.{int_eq}
@@ -21,11 +21,6 @@ pub all_pass-with_row : (p : Row → Bool) (row : Row) (rows : List Row) → p r
 all_pass-with_row p row [] h all = and_from _ _ h refl
 all_pass-with_row p row (x ∷ xs) h all =
     passes_step p row x xs (with_row row xs) (int_lt row.rowid x.rowid) h all (all_pass-with_row p row xs h (and_parts _ _ all).1)
-
-pub all_pass_at : (p : Row → Bool) (rows : List Row) (i : ℕ) (d : Row) → list_all p rows ≡ true → i < length rows → p (get_or rows i d) ≡ true
-all_pass_at p [] i d all l = absurd (omega arith)
-all_pass_at p (x ∷ xs) zero d all l = (and_parts _ _ all).0
-all_pass_at p (x ∷ xs) (suc i) d all l = all_pass_at p xs i d (and_parts _ _ all).1 (omega arith)
 
 -- ---- the number that no rowid is above
 
@@ -69,14 +64,10 @@ with_row-push row (x ∷ xs) topped =
 above_not_equal : (top new rowid : ℤ) → int_lt top rowid ≡ false → int_lt top new ≡ true → int_eq rowid new ≡ false
 above_not_equal top new rowid h l = grind (arith, ints)
 
-or-false : (a b : Bool) → a ≡ false → (a || b) ≡ b
-or-false true b e = absurd cc
-or-false false b e = refl
-
 pub no_rowid_above : (top new : ℤ) (rows : List Row) → int_lt top new ≡ true → is_topped top rows ≡ true → has_rowid new rows ≡ false
 no_rowid_above top new [] l topped = refl
 no_rowid_above top new (x ∷ xs) l topped =
-    or-false (int_eq x.rowid new) (has_rowid new xs) (above_not_equal top new x.rowid (negated _ (and_parts _ _ topped).0) l) ∙ no_rowid_above top new xs l (and_parts _ _ topped).1
+    rw (above_not_equal top new x.rowid (negated _ (and_parts _ _ topped).0) l) (no_rowid_above top new xs l (and_parts _ _ topped).1)
 
 pub above_top : (top new : ℤ) (rows : List Row) → int_lt top new ≡ true → is_topped top rows ≡ true → is_topped new rows ≡ true
 above_top top new rows l topped = is_topped_higher top new rows (grind (arith, ints)) topped

@@ -14,6 +14,9 @@ const ROWS: &str = "SELECT rowid, a FROM v;";
 const NEXT: &str =
     "INSERT INTO v(a) VALUES (vec_int8('[1,2]')); INSERT INTO v(a) VALUES (vec_int8('[3,4]'));";
 
+const THREE_INSERTED: &str =
+    "ok\nok inserted 1 last 1\nok inserted 1 last 2\nok inserted 1 last 7\n";
+
 const NEAREST: &str = "SELECT rowid, distance FROM v WHERE a MATCH vec_int8('[0,0]') AND k = ";
 
 /// How a source and a sink in memory behave: bytes in a read, the read and the write that fail, and the sink's room.
@@ -163,24 +166,33 @@ fn texts_are_read_as_they_are_spelled(rt: HostRuntime) -> Result<(), Fail> {
 #[test]
 fn the_nearest_rows_come_first(rt: HostRuntime) -> Result<(), Fail> {
     let alloc = rt.alloc();
-    let tied =
-        "INSERT INTO v(rowid, a) VALUES (9, vec_int8('[1,2]')); INSERT INTO v(rowid, a) VALUES (4, vec_int8('[2,1]'));";
     let cases = [
-        ("2", "1|5\n2|25\nrows 2\n"),
+        ("2", "1|5\n7|5\nrows 2\n"),
         ("0", "rows 0\n"),
-        ("4096", "1|5\n2|25\nrows 2\n"),
+        ("4096", "1|5\n7|5\n2|25\nrows 3\n"),
         ("4097", "error 13 k out of range 4097\n"),
         ("-1", "error 13 k out of range -1\n"),
     ];
     for (k, wanted) in cases {
-        let input = format!(in alloc; "{TABLE}{NEXT}{NEAREST}{k}")?;
+        let input = format!(in alloc; "{TABLE}{NEXT}{SEVEN}{NEAREST}{k}")?;
         let (_, out) = ran(alloc, "shell", input.as_bytes(), &whole(50))?;
-        let told = format!(in alloc; "ok\nok inserted 1 last 1\nok inserted 1 last 2\n{wanted}")?;
-        assert_eq!(rt; out.as_slice(), told.as_bytes());
+        let told = format!(in alloc; "{THREE_INSERTED}{wanted}")?;
+        assert_eq!(rt; out.as_slice(), told.as_bytes(), "{k}");
     }
+    Ok(())
+}
+
+#[test]
+fn rows_of_one_vector_come_by_rowid(rt: HostRuntime) -> Result<(), Fail> {
+    let alloc = rt.alloc();
+    let tied =
+        "INSERT INTO v(rowid, a) VALUES (9, vec_int8('[1,2]')); INSERT INTO v(rowid, a) VALUES (4, vec_int8('[1,2]'));";
     let input = format!(in alloc; "{TABLE}{tied}{SEVEN}{NEAREST}+2")?;
-    let (_, out) = ran(alloc, "shell", input.as_bytes(), &whole(50))?;
-    assert!(rt; out.as_slice().ends_with(b"4|5\n7|5\nrows 2\n"));
+    let wanted =
+        "ok\nok inserted 1 last 9\nok inserted 1 last 4\nok inserted 1 last 7\n4|5\n7|5\nrows 2\n";
+    let (status, out) = ran(alloc, "shell", input.as_bytes(), &whole(50))?;
+    assert_eq!(rt; status, 0);
+    assert_eq!(rt; out.as_slice(), wanted.as_bytes());
     Ok(())
 }
 
