@@ -1,0 +1,49 @@
+-- Where tables stand in a catalog.
+use Rattle.std.proofs.Common.{◌≡◌, ℕ, ◌<◌, suc, zero, Bool, true, false, not, ◌||◌, ◌&&◌, if◌then◌else◌, List, [], ◌∷◌, length, bytes_eq, refl, sym, ap, ◌∙◌, arith, add-one, ◌+◌}
+use Rattle.std.specs.Prelude.{filter}
+use Rattle.std.proofs.lemmas.Bool.{and_parts, cond-true, cond-false}
+use Rattle.std.proofs.lemmas.Slice.Eq.{bytes_eq-Decides}
+use Rattle.row_model.specs.declared.row.Named.{Named}
+use Rattle.row_model.specs.declared.row.Table.{Table}
+use Rattle.row_model.specs.Change.{other_tables, table_named, with_table}
+use Rattle.row_model.specs.Found.{IsTableAt}
+use Rattle.row_model.specs.Valid.{has_table, have_own_names}
+
+negated : (b : Bool) → not b ≡ true → b ≡ false
+negated true h = absurd cc
+negated false h = refl
+
+neither : (a b : Bool) → (a || b) ≡ false → (a ≡ false) × (b ≡ false)
+neither true b h = absurd cc
+neither false b h = (refl, h)
+
+-- all tables stay where none has the name
+others_stay : (name : List ℕ) (tables : List Named) → has_table name tables ≡ false → other_tables name tables ≡ tables
+others_stay name [] h = refl
+others_stay name (n ∷ ns) h =
+    let parts = neither (bytes_eq n.name name) (has_table name ns) h in
+    rw parts.0 (ap (λ z. n ∷ z) (others_stay name ns parts.1))
+
+-- the first table has the name
+pub table_first : (name : List ℕ) (n : Named) (ns : List Named) → bytes_eq n.name name ≡ true → IsTableAt name (n ∷ ns) 0
+table_first name n ns h = record {
+  named = n;
+  within = omega arith;
+  is = rw h refl;
+  there = λ d. refl;
+  put = λ table. rw h refl;
+  gone = λ own. (
+      let same : n.name ≡ name = (bytes_eq-Decides n.name name).0 h in
+      rw h (others_stay name ns (ap (λ z. has_table z ns) (sym same) ∙ negated (has_table n.name ns) (and_parts (not (has_table n.name ns)) (have_own_names ns) own).0)));
+}
+
+-- a table behind the first has it
+pub table_later : (name : List ℕ) (n : Named) (ns : List Named) (at : ℕ) → bytes_eq n.name name ≡ false → IsTableAt name ns at → IsTableAt name (n ∷ ns) (at + 1)
+table_later name n ns at other a = record {
+  named = a.named;
+  within = let h : at < length ns = a.within in omega arith;
+  is = rw other a.is;
+  there = λ d. rw (add-one at) (a.there d);
+  put = λ table. rw (other, add-one at) (ap (λ xs. n ∷ xs) (a.put table));
+  gone = λ own. rw (other, add-one at) (ap (λ xs. n ∷ xs) (a.gone (and_parts (not (has_table n.name ns)) (have_own_names ns) own).1));
+}
