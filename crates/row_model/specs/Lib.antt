@@ -3,9 +3,14 @@ pub mod Canonical
 pub mod Change
 pub mod Check
 pub mod Columns
+pub mod Limits
 pub mod Lists
 pub mod Machine
 pub mod RefusalTexts
 pub mod Rows
 pub mod Schemas
 pub mod Shelled
+pub mod Step
+pub mod Valid
+pub mod Values
+pub mod WellFormed
