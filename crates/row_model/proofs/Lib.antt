@@ -1,3 +1,5 @@
+pub mod ColumnLaws
+pub mod FaultLaws
 pub mod RowLaws
 pub mod RuleExamples
 pub mod RunLaws
