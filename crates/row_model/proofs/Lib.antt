@@ -1,4 +1,6 @@
 pub mod IdLaws
+pub mod ColumnLaws
+pub mod FaultLaws
 pub mod RowLaws
 pub mod RuleExamples
 pub mod RunLaws

@@ -6,7 +6,7 @@ ghost use Rattle.row_model.specs.Change.{add_table, free_number, table_named};
 ghost use Rattle.row_model.specs.Found.{IsTableAt};
 
 use crate::Named;
-use crate::totals::is_same;
+use crate::place::is_same_name;
 use vec_base::Txt;
 
 /// Where the table of the name stands.
@@ -15,7 +15,7 @@ pub(crate) fn table_at(tables: &[Named], name: &Txt) -> Option<usize>
     ensures { MatchOption result (table_named name.now tables.now ≡ None) (λ at. IsTableAt name.now tables.now at) }
 {
     let (named, others) = tables.split_first()?;
-    if is_same(&named.name, name) {
+    if is_same_name(&named.name, name) {
         return Some(0);
     }
     match table_at(others, name) {

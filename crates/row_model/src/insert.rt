@@ -3,12 +3,13 @@ ghost use Rattle.std.specs.Prelude.{◌≡◌, ◌≤◌, ◌<◌, ◌&&◌, [],
 ghost use Rattle.std.specs.List.{insert};
 ghost use Rattle.row_model.specs.declared.row.Row.{Row as RowOf};
 ghost use Rattle.row_model.specs.Change.{Elsewhere, assigned, blank, given_rowid, grown, group_refusals, keyed, larger, last_rowid, long_values, new_row, put_all, put_at, room_refusals, row_of, rowid_at, same_id, is_same_text, is_the_text, spent, taken_id, taken_rowid, with_new_row};
-ghost use Rattle.row_model.specs.Columns.{is_text_key, has_text_key};
+ghost use Rattle.row_model.specs.Columns.{is_text_key};
 ghost use Rattle.row_model.specs.Limits.{over};
 ghost use Rattle.row_model.specs.Lists.{first};
 ghost use Rattle.row_model.specs.Rows.{has_rowid, is_rising, with_row};
 
-use crate::totals::{is_same, side_bytes};
+use crate::place::{has_text_key, is_same_name};
+use crate::totals::side_bytes;
 use crate::{Column, Kind, Place, Row};
 use std::alloc::Global;
 use vec_base::{List, Memory, Refusal, Txt, Value};
@@ -137,7 +138,7 @@ fn is_the_text(text: &Txt, value: &Value) -> bool
     ensures { result ≡ is_the_text text.now value.now }
 {
     match value {
-        Value::Text(other) => is_same(text, other),
+        Value::Text(other) => is_same_name(text, other),
         _ => false,
     }
 }
@@ -163,13 +164,6 @@ fn same_id(columns: &[Column], a: &[Value], b: &[Value]) -> bool
         return false;
     };
     is_one_id(column.kind, x, y) || same_id(columns, a, b)
-}
-
-/// Whether the table has a text key.
-fn has_text_key(columns: &[Column]) -> bool
-    ensures { result ≡ has_text_key columns.now }
-{
-    columns.iter().any(|column| matches!(column.kind, Kind::TextKey))
 }
 
 /// The refusal of a text id that is there.

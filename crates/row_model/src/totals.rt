@@ -1,11 +1,12 @@
 //! Bytes counted in 64 bits, against the limits on the bytes of all tables.
-ghost use Rattle.std.specs.Prelude.{◌≡◌, ◌+◌, List, bytes_eq};
+ghost use Rattle.std.specs.Prelude.{◌≡◌, ◌+◌, List};
 ghost use Rattle.row_model.specs.declared.row.Row.{Row as RowOf};
 ghost use Rattle.row_model.specs.Change.{Elsewhere, elsewhere, rows_side_bytes, rows_vector_bytes};
 ghost use Rattle.row_model.specs.Rows.{with_row};
 ghost use Rattle.row_model.specs.Totals.{capped, total_beside};
 ghost use Rattle.row_model.specs.Values.{row_side_bytes, row_vector_bytes, side_bytes, vector_bytes};
 
+use crate::place::is_same_name;
 use crate::{Named, Row};
 use vec_base::{Txt, Value};
 
@@ -60,13 +61,6 @@ pub(crate) fn row_vector_bytes(row: &Row) -> u64
     total
 }
 
-/// Whether the texts are the same.
-pub(crate) fn is_same(a: &Txt, b: &Txt) -> bool
-    ensures { result ≡ bytes_eq a.now b.now }
-{
-    a.as_text().as_bytes() == b.as_text().as_bytes()
-}
-
 impl Totals {
     /// The bytes with those of one more row.
     pub(crate) fn with(self, row: &Row) -> Totals
@@ -100,7 +94,7 @@ impl Totals {
     {
         let mut totals = Totals { vectors: 0, sides: 0 };
         for named in tables {
-            if !is_same(&named.name, name) {
+            if !is_same_name(&named.name, name) {
                 totals = totals.with_rows(named.table.rows.as_slice());
             }
         }
