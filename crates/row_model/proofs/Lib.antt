@@ -1,6 +1,10 @@
+pub mod AloneLaws
+pub mod ExecuteLaws
 pub mod IdLaws
 pub mod ColumnLaws
 pub mod FaultLaws
+pub mod InsertLaws
+pub mod NarrowLaws
 pub mod RowLaws
 pub mod RuleExamples
 pub mod RunLaws

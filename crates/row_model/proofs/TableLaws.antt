@@ -1,13 +1,15 @@
 -- Where tables stand in a catalog.
-use Rattle.std.proofs.Common.{◌≡◌, ℕ, ◌<◌, suc, zero, Bool, true, false, not, ◌||◌, ◌&&◌, if◌then◌else◌, List, [], ◌∷◌, length, bytes_eq, refl, sym, ap, ◌∙◌, arith, add-one, ◌+◌}
+use Rattle.std.proofs.Common.{◌≡◌, ℕ, ◌<◌, suc, zero, Bool, true, false, cond, Option, Some, find, subst, not, ◌||◌, ◌&&◌, if◌then◌else◌, List, [], ◌∷◌, length, bytes_eq, refl, sym, ap, ◌∙◌, arith, add-one, ◌+◌}
 use Rattle.std.specs.Prelude.{filter}
 use Rattle.std.proofs.lemmas.Bool.{and_parts, cond-true, cond-false}
 use Rattle.std.proofs.lemmas.Slice.Eq.{bytes_eq-Decides}
+use Rattle.std.specs.List.{AllByRecursion}
+use Rattle.row_model.specs.declared.row.Catalog.{Catalog}
 use Rattle.row_model.specs.declared.row.Named.{Named}
 use Rattle.row_model.specs.declared.row.Table.{Table}
 use Rattle.row_model.specs.Change.{other_tables, table_named, with_table}
-use Rattle.row_model.specs.Found.{IsTableAt}
-use Rattle.row_model.specs.Valid.{has_table, have_own_names}
+use Rattle.row_model.specs.Found.{IsTable, IsTableAt}
+use Rattle.row_model.specs.Valid.{has_table, have_own_names, IsValidCatalog, IsValidTable}
 
 negated : (b : Bool) → not b ≡ true → b ≡ false
 negated true h = absurd cc
@@ -47,3 +49,20 @@ table_later name n ns at other a = record {
   put = λ table. rw (other, add-one at) (ap (λ xs. n ∷ xs) (a.put table));
   gone = λ own. rw (other, add-one at) (ap (λ xs. n ∷ xs) (a.gone (and_parts (not (has_table n.name ns)) (have_own_names ns) own).1));
 }
+
+-- ---- tables of a valid catalog
+
+all_step : (P : Named → Type 0) (b : Bool) (n named : Named) (later : Option Named) → P n → (later ≡ Some named → P named) → cond b (Some n) later ≡ Some named → P named
+all_step P true n named later here rest h = (let is : n ≡ named = cc in subst (λ (z : Named). P z) is here)
+all_step P false n named later here rest h = rest h
+
+all_at : (P : Named → Type 0) (name : List ℕ) (tables : List Named) (named : Named) → AllByRecursion P tables → table_named name tables ≡ Some named → P named
+all_at P name [] named all f = absurd cc
+all_at P name (n ∷ ns) named all f = all_step P (bytes_eq n.name name) n named (find (λ t. bytes_eq t.name name) ns) all.0 (λ later. all_at P name ns named all.1 later) f
+
+-- a table that is found in a valid catalog is valid
+pub found_valid : (name : List ℕ) (catalog : Catalog) (named : Named) → IsValidCatalog catalog → table_named name catalog.tables ≡ Some named → IsValidTable named.table
+found_valid name catalog named valid f = all_at (λ (n : Named). IsValidTable n.table) name catalog.tables named valid.tables f
+
+pub table_valid : (name : List ℕ) (catalog : Catalog) (table : Table) → IsValidCatalog catalog → IsTable name catalog.tables table → IsValidTable table
+table_valid name catalog table valid found = subst (λ (z : Table). IsValidTable z) (sym found.same) (found_valid name catalog found.named valid found.is)

@@ -15,3 +15,9 @@ pub record IsTableAt (name : List ℕ) (tables : List Named) (at : ℕ) : Type 0
   pub put : (table : Table) → with_table name table tables ≡ slice_set tables at (record named { table = table })
   pub gone : have_own_names tables ≡ true → other_tables name tables ≡ remove tables at
 
+
+-- it is the table of the name
+pub record IsTable (name : List ℕ) (tables : List Named) (table : Table) : Type 0 where
+  pub named : Named
+  pub is : table_named name tables ≡ Some named
+  pub same : table ≡ named.table

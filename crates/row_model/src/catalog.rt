@@ -1,11 +1,11 @@
 //! Tables by their names and numbers.
-ghost use Rattle.std.specs.Prelude.{◌≡◌, ◌≤◌, ◌+◌, length, None, MatchOption};
+ghost use Rattle.std.specs.Prelude.{◌≡◌, ◌≤◌, ◌+◌, length, None, IfNone, IfSome, MatchOption};
 ghost use Rattle.std.specs.List.{insert};
 ghost use Rattle.row_model.specs.declared.row.Named.{Named as NamedOf};
 ghost use Rattle.row_model.specs.Change.{add_table, free_number, table_named};
-ghost use Rattle.row_model.specs.Found.{IsTableAt};
+ghost use Rattle.row_model.specs.Found.{IsTable, IsTableAt};
 
-use crate::Named;
+use crate::{Named, Table};
 use crate::place::is_same_name;
 use vec_base::Txt;
 
@@ -22,6 +22,26 @@ pub(crate) fn table_at(tables: &[Named], name: &Txt) -> Option<usize>
         Some(at) => Some(at + 1),
         None => None,
     }
+}
+
+/// A table that was found, and where it stands.
+#[derive(Drop)]
+pub(crate) struct FoundTable<'a> {
+    pub(crate) at: usize,
+    pub(crate) table: &'a Table,
+}
+
+/// The table of the name.
+pub(crate) fn find_table<'a>(tables: &'a [Named], name: &Txt) -> Option<FoundTable<'a>>
+    ensures none { IfNone result (table_named name.now tables.now ≡ None) }
+    ensures at { IfSome result (λ found. IsTableAt name.now tables.now found.at) }
+    ensures table { IfSome result (λ found. IsTable name.now tables.now found.table.now) }
+{
+    let at = table_at(tables, name)?;
+    Some(FoundTable {
+        at,
+        table: &tables[at].table,
+    })
 }
 
 /// The least number from `number` on that no table has.

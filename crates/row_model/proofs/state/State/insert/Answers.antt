@@ -1,0 +1,35 @@
+use Rattle.std.proofs.Common.{◌≡◌, None, ap, sym, refl, ◌∙◌, rules}
+use Rattle.row_model.specs.Check.{check_insert}
+use Rattle.row_model.specs.Found.{IsTable, IsTableAt}
+use Rattle.row_model.specs.Valid.{IsValidTable}
+use Rattle.row_model.proofs.ExecuteLaws.{insert_writes, write-faulted, write-refused, write-made}
+use Rattle.row_model.proofs.NarrowLaws.{valid_narrow}
+use Rattle.row_model.proofs.TableLaws.{table_valid}
+use Rattle.row_model.proofs.state.State.insert.Goals as goal
+
+pub check_insert-requires : goal.check_insert-requires
+check_insert-requires c = record {
+  narrow = rw c.as_slice.ensures (valid_narrow c.in-Some.found.table.now.schema (table_valid c.args.insert.now.table c.args.self.now.catalog c.in-Some.found.table.now c.requires.valid (rw c.as_slice-tables.ensures at c.in-Some.ensures.table)).schema);
+}
+
+pub insert_all-requires : goal.insert_all-requires
+insert_all-requires c = record {
+  valid = table_valid c.args.insert.now.table c.args.self.now.catalog c.in-Some.found.table.now c.requires.valid (rw c.as_slice-tables.ensures at c.in-Some.ensures.table);
+}
+
+pub returns-in-Ok-Ok : goal.returns-in-Ok-Ok
+returns-in-Ok-Ok c =
+    let insert = c.args.insert.now in
+    let found : IsTable insert.table c.args.self.now.catalog.tables c.in-Some.found.table.now = rw c.as_slice-tables.ensures at c.in-Some.ensures.table in
+    let at : IsTableAt insert.table c.args.self.now.catalog.tables c.in-Some.found.at = rw c.as_slice-tables.ensures at c.in-Some.ensures.at in
+    let fine : check_insert c.in-Some.found.table.now.schema.columns insert ≡ None = search rules in
+    write-made c.args.self.now _ _ _ _ _ _ (insert_writes c.args.self.now insert c.in-Some.found.table.now c.requires.idle found) fine
+    (rw (c.in-Ok-Ok.field-0-is, c.as_slice-tables.ensures) at c.in-Ok-Ok.ensures.grown) (c.commit_table.ensures insert.table at)
+
+pub returns-in-Ok-Err : goal.returns-in-Ok-Err
+returns-in-Ok-Err c =
+    let insert = c.args.insert.now in
+    let found : IsTable insert.table c.args.self.now.catalog.tables c.in-Some.found.table.now = rw c.as_slice-tables.ensures at c.in-Some.ensures.table in
+    let fine : check_insert c.in-Some.found.table.now.schema.columns insert ≡ None = search rules in
+    write-refused c.args.self.now _ _ _ _ (insert_writes c.args.self.now insert c.in-Some.found.table.now c.requires.idle found) fine
+    (rw (c.in-Ok-Err.field-0-is, c.as_slice-tables.ensures) at c.in-Ok-Err.ensures.refused)
