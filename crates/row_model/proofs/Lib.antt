@@ -1,6 +1,9 @@
 pub mod ColumnLaws
 pub mod FaultLaws
+pub mod NearLaws
 pub mod RowLaws
 pub mod RuleExamples
 pub mod RunLaws
+pub mod SchemaLaws
+pub mod SelectLaws
 pub mod Worked

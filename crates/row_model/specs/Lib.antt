@@ -3,6 +3,7 @@ pub mod Canonical
 pub mod Change
 pub mod Check
 pub mod Columns
+pub mod Comparable
 pub mod Limits
 pub mod Lists
 pub mod Machine
