@@ -4,6 +4,7 @@ pub mod Canonical
 pub mod Change
 pub mod Check
 pub mod Columns
+pub mod Comparable
 pub mod Found
 pub mod Limits
 pub mod Lists

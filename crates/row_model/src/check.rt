@@ -54,7 +54,12 @@ pub(crate) fn check_delete(columns: &[Column], delete: &Delete) -> Option<Refusa
 }
 
 /// Notes the names of items, the first of which has this index.
-fn note_item_names(worst: Option<Refusal>, columns: &[Column], index: u16, names: &[Txt]) -> Option<Refusal>
+fn note_item_names(
+    worst: Option<Refusal>,
+    columns: &[Column],
+    index: u16,
+    names: &[Txt],
+) -> Option<Refusal>
     requires narrow { length columns.now < 255 }
     ensures { result ≡ least_after worst (names_faults columns.now index names.now) }
 {

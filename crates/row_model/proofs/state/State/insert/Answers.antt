@@ -1,4 +1,5 @@
-use Rattle.std.proofs.Common.{◌≡◌, None, ap, sym, refl, ◌∙◌, rules}
+use Rattle.std.proofs.Common.{◌≡◌, None, ap, sym, refl, ◌∙◌, rules, w64, SFits}
+use Rattle.std.proofs.lemmas.Int.{to_z-of_z}
 use Rattle.row_model.specs.Check.{check_insert}
 use Rattle.row_model.specs.Found.{IsTable, IsTableAt}
 use Rattle.row_model.specs.Valid.{IsValidTable}
@@ -23,8 +24,9 @@ returns-in-Ok-Ok c =
     let found : IsTable insert.table c.args.self.now.catalog.tables c.in-Some.found.table.now = rw c.as_slice-tables.ensures at c.in-Some.ensures.table in
     let at : IsTableAt insert.table c.args.self.now.catalog.tables c.in-Some.found.at = rw c.as_slice-tables.ensures at c.in-Some.ensures.at in
     let fine : check_insert c.in-Some.found.table.now.schema.columns insert ≡ None = search rules in
+    let fits : SFits w64 c.in-Ok-Ok.grown.last = search rules in
     write-made c.args.self.now _ _ _ _ _ _ (insert_writes c.args.self.now insert c.in-Some.found.table.now c.requires.idle found) fine
-    (rw (c.in-Ok-Ok.field-0-is, c.as_slice-tables.ensures) at c.in-Ok-Ok.ensures.grown) (c.commit_table.ensures insert.table at)
+    (rw (c.in-Ok-Ok.field-0-is, c.as_slice-tables.ensures) at c.in-Ok-Ok.ensures.grown) (rw (c.len.ensures, to_z-of_z w64 c.in-Ok-Ok.grown.last fits) at (c.commit_table.ensures insert.table at))
 
 pub returns-in-Ok-Err : goal.returns-in-Ok-Err
 returns-in-Ok-Err c =
