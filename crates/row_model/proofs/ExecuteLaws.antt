@@ -26,7 +26,7 @@ use Rattle.row_model.proofs.AloneLaws.{writes_alone}
 
 -- ---- a change that is refused, or is made
 
-some_none : {A : Type 0} (a : A) → Some a ≡ None → ⊥
+pub some_none : {A : Type 0} (a : A) → Some a ≡ None → ⊥
 some_none a h = cc
 
 pub if_none-some : (refusals : List Refusal) (change : Reply × Catalog) (refusal : Refusal) → first refusals ≡ Some refusal → if_none refusals change ≡ Err refusal

@@ -4,12 +4,12 @@ pub mod ExecuteLaws
 pub mod FaultLaws
 pub mod IdLaws
 pub mod InsertLaws
-pub mod NarrowLaws
 pub mod NearLaws
 pub mod RowLaws
 pub mod RuleExamples
 pub mod RunLaws
 pub mod SchemaLaws
+pub mod SelectAlone
 pub mod SelectLaws
 pub mod TableLaws
 pub mod TopLaws

@@ -1,23 +1,28 @@
 //! Statements where no session is in a transaction: each write commits at once.
 ghost use Rattle.std.specs.Prelude.{◌≡◌, ◌<◌, ◌+◌, ℕ, true, List as Seq, length, map, Ok as ok, Err as err, IfOk, IfErr};
-ghost use Rattle.row_model.specs.declared.row.Named.{Named as NamedOf};
+ghost use Rattle.row_model.specs.declared.row.Catalog.{Catalog as CatalogOf};
 ghost use Rattle.row_model.specs.declared.statement.Statement.TheVariants.{Create, Drop, Insert as InsertOf, Update as UpdateOf, Delete as DeleteOf, Select as SelectOf};
-ghost use Rattle.row_model.specs.declared.request.Reply.TheVariants.{Inserted};
+ghost use Rattle.row_model.specs.declared.request.Reply.TheVariants.{Changed, Inserted};
 ghost use Rattle.row_model.specs.Alone.{all_idle, CommitsAlone, ExecutesAlone};
-ghost use Rattle.row_model.specs.Change.{with_table};
+ghost use Rattle.row_model.specs.Change.{with_rows, with_table};
 ghost use Rattle.row_model.specs.Columns.{place_of};
 ghost use Rattle.row_model.specs.Found.{IsTableAt};
 ghost use Rattle.row_model.specs.Limits.{over_tables};
 ghost use Rattle.row_model.specs.Lists.{first};
-ghost use Rattle.row_model.specs.Step.{commits_spent, inserted_catalog, with_tables};
+ghost use Rattle.row_model.specs.Step.{commits_spent, inserted_catalog, kept_catalog, too_many, updated_catalog, with_tables};
 ghost use Rattle.row_model.specs.Valid.{IsValidCatalog, IsValidTable};
 
-use crate::check::check_insert;
+use crate::answer::answer;
+use crate::check::{check_delete, check_insert, check_select, check_update};
+use crate::forms::is_nearest;
 use crate::grow::{Grown, grow};
 use crate::totals::Totals;
+use crate::update::{kept, met_count, update_refusal, updated};
 use crate::catalog::{find_table, free_number, number_place, table_at};
 use crate::insert::over;
-use crate::{Column, Insert, Named, Place, Reply, Schema, State, Table};
+use crate::{
+    Column, Delete, Insert, Named, Place, Reply, Row, Schema, Select, State, Table, Update,
+};
 use std::alloc::Global;
 use vec_base::{List, Memory, Refusal, Txt};
 
@@ -51,6 +56,71 @@ fn insert_all(alloc: Global, tables: &[Named], table: &Table, insert: &Insert) -
     let totals = Totals::beside(tables, &insert.table, table.rows.as_slice());
     let copy = table.copy(alloc)?;
     grow(alloc, places.as_slice(), copy, totals, insert.rows.as_slice())
+}
+
+/// The table with other rows.
+fn with_rows(alloc: Global, table: &Table, rows: List<Row>) -> Result<Table, Memory>
+    ensures { IfOk result (λ new. new ≡ with_rows table.now rows) }
+{
+    Ok(Table {
+        schema: table.schema.copy(alloc)?,
+        rows,
+        top: table.top,
+    })
+}
+
+/// A table after an UPDATE or a DELETE, and the number of rows that were changed.
+#[derive(Drop)]
+struct Edited {
+    table: Table,
+    count: u64,
+}
+
+/// A copy of the table with the new values of an UPDATE, or what refuses it.
+fn update_all(alloc: Global, tables: &[Named], table: &Table, update: &Update) -> Result<Result<Edited, Refusal>, Memory>
+    requires valid { IsValidTable table.now }
+    ensures refused { IfOk result (λ edited. IfErr edited (λ refusal. updated_catalog update.now (with_tables tables.now) table.now ≡ err refusal)) }
+    ensures edited { IfOk result (λ edited. IfOk edited (λ e. updated_catalog update.now (with_tables tables.now) table.now
+        ≡ ok (Changed e.count, with_tables (with_table update.now.table e.table tables.now)))) }
+{
+    let columns = table.schema.columns.as_slice();
+    let rows = updated(alloc, columns, update, table.rows.as_slice())?;
+    let count = met_count(columns, update.wanted.as_slice(), table.rows.as_slice());
+    let totals = Totals::beside(tables, &update.table, rows.as_slice());
+    if let Some(refusal) = update_refusal(totals, count, update) {
+        return Ok(Err(refusal));
+    }
+    let table = with_rows(alloc, table, rows)?;
+    Ok(Ok(Edited {
+        table,
+        count: count as u64,
+    }))
+}
+
+/// A copy of the table without the rows of a DELETE.
+fn delete_all(alloc: Global, table: &Table, delete: &Delete) -> Result<Edited, Memory>
+    requires valid { IsValidTable table.now }
+    ensures { (catalog : CatalogOf) → IfOk result (λ e. kept_catalog delete.now catalog table.now ≡ (Changed e.count, with_tables (with_table delete.now.table e.table catalog.tables))) }
+{
+    let columns = table.schema.columns.as_slice();
+    let rows = kept(alloc, columns, delete, table.rows.as_slice())?;
+    let count = met_count(columns, delete.wanted.as_slice(), table.rows.as_slice());
+    let table = with_rows(alloc, table, rows)?;
+    Ok(Edited {
+        table,
+        count: count as u64,
+    })
+}
+
+/// The refusal of an answer that has too many rows.
+fn too_many(select: &Select, count: usize) -> Option<Refusal>
+    ensures { result ≡ first (too_many select.now count) }
+{
+    if !is_nearest(select.wanted.as_slice()) && count > 4096 {
+        Some(Refusal::TooManyRows(count as u64))
+    } else {
+        None
+    }
 }
 
 impl State {
@@ -150,5 +220,70 @@ impl State {
             Ok(Err(refusal)) => Reply::Refused(refusal),
             Err(Memory) => Reply::Refused(Refusal::WantOfMemory),
         }
+    }
+
+    /// Gives columns new values in the rows that meet the terms.
+    pub(crate) fn update(&mut self, alloc: Global, update: &Update) -> Reply
+        requires idle { all_idle self.old.sessions ≡ true }
+        requires valid { IsValidCatalog self.old.catalog }
+        ensures { ExecutesAlone self.old (UpdateOf update.now) result self.new }
+    {
+        let tables = self.catalog.tables.as_slice();
+        let Some(found) = find_table(tables, &update.table) else {
+            return Reply::Refused(Refusal::NoTable);
+        };
+        if let Some(refusal) = check_update(found.table.schema.columns.as_slice(), update) {
+            return Reply::Refused(refusal);
+        }
+        let at = found.at;
+        match update_all(alloc, tables, found.table, update) {
+            Ok(Ok(edited)) => {
+                self.commit_table(alloc, at, edited.table, Reply::Changed(edited.count))
+            }
+            Ok(Err(refusal)) => Reply::Refused(refusal),
+            Err(Memory) => Reply::Refused(Refusal::WantOfMemory),
+        }
+    }
+
+    /// Removes the rows that meet the terms.
+    pub(crate) fn delete(&mut self, alloc: Global, delete: &Delete) -> Reply
+        requires idle { all_idle self.old.sessions ≡ true }
+        requires valid { IsValidCatalog self.old.catalog }
+        ensures { ExecutesAlone self.old (DeleteOf delete.now) result self.new }
+    {
+        let tables = self.catalog.tables.as_slice();
+        let Some(found) = find_table(tables, &delete.table) else {
+            return Reply::Refused(Refusal::NoTable);
+        };
+        if let Some(refusal) = check_delete(found.table.schema.columns.as_slice(), delete) {
+            return Reply::Refused(refusal);
+        }
+        let at = found.at;
+        match delete_all(alloc, found.table, delete) {
+            Ok(edited) => {
+                self.commit_table(alloc, at, edited.table, Reply::Changed(edited.count))
+            }
+            Err(Memory) => Reply::Refused(Refusal::WantOfMemory),
+        }
+    }
+
+    /// Answers the rows that a SELECT asks for; at most 4,096 where they are not the nearest to a vector.
+    pub(crate) fn select(&self, alloc: Global, select: &Select) -> Reply
+        requires valid { IsValidCatalog self.now.catalog }
+        ensures { ExecutesAlone self.now (SelectOf select.now) result self.now }
+    {
+        let Some(found) = find_table(self.catalog.tables.as_slice(), &select.table) else {
+            return Reply::Refused(Refusal::NoTable);
+        };
+        if let Some(refusal) = check_select(found.table.schema.columns.as_slice(), select) {
+            return Reply::Refused(refusal);
+        }
+        let Ok(rows) = answer(alloc, found.table, select) else {
+            return Reply::Refused(Refusal::WantOfMemory);
+        };
+        if let Some(refusal) = too_many(select, rows.len()) {
+            return Reply::Refused(refusal);
+        }
+        Reply::Rows(rows)
     }
 }

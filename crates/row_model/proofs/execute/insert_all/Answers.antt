@@ -6,11 +6,11 @@ use Rattle.row_model.specs.Columns.{place_of}
 use Rattle.row_model.specs.Step.{with_tables}
 use Rattle.row_model.specs.Totals.{total_beside}
 use Rattle.row_model.proofs.InsertLaws.{inserted_refused, inserted_grown}
-use Rattle.row_model.proofs.NarrowLaws.{valid_narrow}
+use Rattle.row_model.proofs.SchemaLaws.{narrow_columns}
 use Rattle.row_model.proofs.execute.insert_all.Goals as goal
 
 pub places_of-requires : goal.places_of-requires
-places_of-requires c = record { narrow = rw c.as_slice.ensures (valid_narrow c.args.table.now.schema c.requires.valid.schema) }
+places_of-requires c = record { narrow = rw c.as_slice.ensures (narrow_columns c.args.table.now.schema c.requires.valid.schema) }
 
 pub returns-clause-refused : goal.returns-clause-refused
 returns-clause-refused c =

@@ -4,13 +4,13 @@ use Rattle.row_model.specs.Check.{check_insert}
 use Rattle.row_model.specs.Found.{IsTable, IsTableAt}
 use Rattle.row_model.specs.Valid.{IsValidTable}
 use Rattle.row_model.proofs.ExecuteLaws.{insert_writes, write-faulted, write-refused, write-made}
-use Rattle.row_model.proofs.NarrowLaws.{valid_narrow}
+use Rattle.row_model.proofs.SchemaLaws.{narrow_columns}
 use Rattle.row_model.proofs.TableLaws.{table_valid}
 use Rattle.row_model.proofs.state.State.insert.Goals as goal
 
 pub check_insert-requires : goal.check_insert-requires
 check_insert-requires c = record {
-  narrow = rw c.as_slice.ensures (valid_narrow c.in-Some.found.table.now.schema (table_valid c.args.insert.now.table c.args.self.now.catalog c.in-Some.found.table.now c.requires.valid (rw c.as_slice-tables.ensures at c.in-Some.ensures.table)).schema);
+  narrow = rw c.as_slice.ensures (narrow_columns c.in-Some.found.table.now.schema (table_valid c.args.insert.now.table c.args.self.now.catalog c.in-Some.found.table.now c.requires.valid (rw c.as_slice-tables.ensures at c.in-Some.ensures.table)).schema);
 }
 
 pub insert_all-requires : goal.insert_all-requires
