@@ -6,8 +6,21 @@ use vec_base::{List, Op, Txt, Value};
 pub enum Statement {
     /// Makes an empty table of the name.
     Create(Txt, Schema),
+    /// Removes the table.
+    Drop(Txt),
     Insert(Insert),
+    Update(Update),
+    Delete(Delete),
     Select(Select),
+    /// Asks how the SELECT would be carried out.
+    Explain(Select),
+    /// Begins a transaction, which writes from the beginning where the flag is set.
+    Begin(bool),
+    Commit,
+    Rollback,
+    RollbackTo(Txt),
+    Savepoint(Txt),
+    Release(Txt),
 }
 
 /// Adds rows to a table: each has a value for each of the named columns.
@@ -18,20 +31,57 @@ pub struct Insert {
     pub rows: List<List<Value>>,
 }
 
-/// Asks for rows of a table: all, or those nearest to a vector.
+/// Gives columns new values in the rows that meet all terms.
+#[derive(Debug, Drop)]
+pub struct Update {
+    pub table: Txt,
+    pub sets: List<Assign>,
+    /// The terms of WHERE.
+    pub wanted: List<Constraint>,
+}
+
+/// A column and its new value.
+#[derive(Debug, Drop)]
+pub struct Assign {
+    pub column: Txt,
+    pub value: Value,
+}
+
+/// Removes the rows that meet all terms.
+#[derive(Debug, Drop)]
+pub struct Delete {
+    pub table: Txt,
+    /// The terms of WHERE.
+    pub wanted: List<Constraint>,
+}
+
+/// Asks for rows of a table: those that meet all terms, or the nearest to a vector among them.
 #[derive(Debug, Drop)]
 pub struct Select {
     pub table: Txt,
     pub items: Items,
     /// The terms of WHERE.
     pub wanted: List<Constraint>,
+    pub order: Order,
+    /// The value of LIMIT.
+    pub limit: Option<Value>,
 }
 
 /// What is answered of each row.
 #[derive(Debug, Drop)]
 pub enum Items {
-    /// The values of these columns, in this order.
+    /// The key, or the rowid where there is no key, and then the other declared columns.
+    All,
+    /// These columns, in this order.
     Named(List<Txt>),
+}
+
+/// The order that a SELECT asks for.
+#[derive(Clone, Copy, Debug, PartialEq, Eq)]
+pub enum Order {
+    Unsaid,
+    ByDistance,
+    ByRowid,
 }
 
 /// A term on a column.
@@ -46,6 +96,8 @@ pub struct Constraint {
 pub enum Test {
     /// The column's value stands so to the constant.
     Compare(Op, Value),
+    /// The column's value is one of these.
+    Member(List<Value>),
     /// The rows nearest to the vector are wanted.
     Match(Value),
 }
