@@ -1,5 +1,5 @@
 -- A text beyond the limit is read as its kept bytes are: both are refused by their length.
-use Rattle.std.proofs.Common.{◌≡◌, ℕ, ◌+◌, ◌≤◌, ◌<◌, Bool, true, false, nat_lt, List, length, take, inl, inr, refl, sym, subst, arith, lt-ltb, ltb-true, ltb-false}
+use Rattle.std.proofs.Common.{◌≡◌, ℕ, ◌+◌, ◌≤◌, ◌<◌, Bool, true, false, nat_lt, List, [], length, take, inl, inr, Ok, Err, ap, refl, sym, subst, arith, lt-ltb, ltb-true, ltb-false}
 use Rattle.std.proofs.lemmas.List.{take_all, length-take}
 use Rattle.std.specs.declared.result.Result.{Result}
 use Rattle.vec_base.specs.declared.refusal.Refusal.{Refusal}
@@ -7,8 +7,9 @@ use Rattle.row_model.specs.declared.statement.Statement.{Statement}
 use Rattle.row_model.specs.declared.state.State.{State}
 use Rattle.row_model.specs.declared.request.Reply.{Reply}
 use Rattle.row_model.specs.Shelled.{Answers}
-use Rattle.vec_literal.specs.Tokens.{tokens}
-use Rattle.vec_shell.specs.Forms.{Reads, ReadsWithin, unread_place}
+use Rattle.vec_base.specs.declared.refusal.Refusal.TheVariants.{Syntax, Unsupported, Parameter, Full, BadSchema}
+use Rattle.vec_sql.specs.Reads.{IsRefusal, FailsBy}
+use Rattle.vec_shell.specs.Reads.{Reads}
 
 -- the kept bytes of a longer text are too many as well
 still_long : (n : ℕ) (t : List ℕ) → nat_lt n (length t) ≡ true → nat_lt n (length (take (n + 1) t)) ≡ true
@@ -20,10 +21,31 @@ still_long n t long =
 whole_kept : (n : ℕ) (t : List ℕ) → nat_lt n (length t) ≡ false → take (n + 1) t ≡ t
 whole_kept n t short = let few : length t ≤ n = ltb-false n (length t) short in take_all (n + 1) t (omega arith)
 
+beyond : (t : List ℕ) → nat_lt 4194304 (length t) ≡ true → length t ≤ 4194304 → ⊥
+beyond t long within = (let more : 4194304 < length t = ltb-true 4194304 (length t) long in absurd (omega arith))
+
+fails_long : (t : List ℕ) (refusal : Refusal) → nat_lt 4194304 (length t) ≡ true → FailsBy t refusal → refusal ≡ Syntax 4194304
+fails_long t refusal long (inl far) = far.1
+fails_long t refusal long (inr fails) = absurd (beyond t long fails.1.0)
+
+refused_long : (t : List ℕ) (refusal : Refusal) → nat_lt 4194304 (length t) ≡ true → IsRefusal t [] refusal → refusal ≡ Syntax 4194304
+refused_long t (Syntax place) long (inl fails) = fails_long t (Syntax place) long fails
+refused_long t (Syntax place) long (inr given) = absurd (beyond t long given.1.0.within)
+refused_long t (Unsupported word) long fails = fails_long t (Unsupported word) long fails
+refused_long t (Parameter index) long given = absurd (beyond t long given.1.0.within)
+refused_long t (Full limit count) long given = absurd (beyond t long given.1.0.within)
+refused_long t (BadSchema rule) long given = absurd (beyond t long given.1.0.within)
+
+-- a text beyond the limit gets one refusal
+too_long : (t : List ℕ) (read : Result Statement Refusal) → nat_lt 4194304 (length t) ≡ true → Reads t read → read ≡ Err (Syntax 4194304)
+too_long t (Ok statement) long reads = absurd (beyond t long reads.0.is_given.within)
+too_long t (Err refusal) long (inr unserved) = absurd (beyond t long unserved.0.1.0.is_given.within)
+too_long t (Err refusal) long (inl refused) = ap (λ (z : Refusal). Err z) (refused_long t refusal long refused)
+
 reads_kept : (t : List ℕ) (read : Result Statement Refusal) (b : Bool) → nat_lt 4194304 (length t) ≡ b → Reads (take 4194305 t) read → Reads t read
 reads_kept t read true long reads =
-    subst (λ (b : Bool). ReadsWithin b (unread_place (tokens t 0)) t read) (sym long)
-    (subst (λ (b : Bool). ReadsWithin b (unread_place (tokens (take 4194305 t) 0)) (take 4194305 t) read) (still_long 4194304 t long) reads)
+    subst (λ (z : Result Statement Refusal). Reads t z) (sym (too_long (take 4194305 t) read (still_long 4194304 t long) reads))
+    (inl (inl (inl (ltb-true 4194304 (length t) long, refl))))
 reads_kept t read false short reads = subst (λ (u : List ℕ). Reads u read) (whole_kept 4194304 t short) reads
 
 pub answers_kept : (session : ℕ) (old new : State) (t : List ℕ) (reply : Reply) →

@@ -1,16 +1,8 @@
 pub mod Causes
-pub mod Enclosing
 pub mod Handing
 pub mod Kept
-pub mod ListAnswers
-pub mod ListNearest
-pub mod ListRows
-pub mod NarrowForms
-pub mod Numbers
-pub mod Opens
 pub mod PieceLaws
 pub mod Progressing
-pub mod Reading
 pub mod SentLaws
 pub mod Serving
 pub mod Standing

@@ -7,7 +7,7 @@ use Rattle.row_model.specs.declared.request.Reply.{Reply}
 use Rattle.row_model.specs.Shelled.{Answers, AnswersAll}
 use Rattle.row_model.proofs.RunLaws.{answers_all-push}
 use Rattle.vec_shell.specs.declared.cutter.Cutter.{Cutter}
-use Rattle.vec_shell.specs.Forms.{Reads}
+use Rattle.vec_shell.specs.Reads.{Reads}
 use Rattle.vec_shell.specs.Lines.{lines, lines_of}
 use Rattle.vec_shell.specs.Parts.{Stands, Counts}
 use Rattle.vec_shell.specs.Pieces.{trim, add_text, texts_of, ends, ended_from, rest_from}

@@ -11,7 +11,7 @@ use Rattle.vec_shell.specs.declared.cutter.Cutter.{Cutter}
 use Rattle.vec_shell.specs.declared.tally.Tally.{Tally}
 use Rattle.vec_shell.specs.declared.shell.Ending.{Ending}
 use Rattle.vec_shell.specs.declared.shell.Ending.TheVariants.{Whole, ReadFault, WriteFault}
-use Rattle.vec_shell.specs.Forms.{Reads}
+use Rattle.vec_shell.specs.Reads.{Reads}
 use Rattle.vec_shell.specs.Headline.{Ran, streams}
 use Rattle.vec_shell.specs.Lines.{lines_of}
 use Rattle.vec_shell.specs.Parts.{Stands, Counts}

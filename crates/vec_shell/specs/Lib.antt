@@ -1,16 +1,12 @@
-pub mod Forms
-pub mod FormsRead
 pub mod Headline
 pub mod Lines
-pub mod Lists
-pub mod ListStates
 pub mod Outcome
 pub mod Parts
 pub mod Pieces
 pub mod Progress
 pub mod Puts
 pub mod Quotes
+pub mod Reads
 pub mod Sending
 pub mod Served
 pub mod Statuses
-pub mod Widths

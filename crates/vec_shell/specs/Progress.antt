@@ -7,7 +7,7 @@ use Rattle.row_model.specs.declared.state.State.{State}
 use Rattle.row_model.specs.Shelled.{AnswersAll}
 use Rattle.vec_shell.specs.declared.cutter.Cutter.{Cutter}
 use Rattle.vec_shell.specs.declared.tally.Tally.{Tally}
-use Rattle.vec_shell.specs.Forms.{Reads}
+use Rattle.vec_shell.specs.Reads.{Reads}
 use Rattle.vec_shell.specs.Headline.{BrokenOff}
 use Rattle.vec_shell.specs.Lines.{lines_of}
 use Rattle.vec_shell.specs.Parts.{Stands, Counts}

@@ -2,10 +2,8 @@
 #![tactic(auto)]
 
 mod cutter;
-mod fill;
-mod form;
-mod list_session;
 mod output;
+mod plain_session;
 mod session;
 mod shell;
 mod tally;
@@ -16,4 +14,8 @@ pub use shell::Ending;
 pub use top::run;
 
 #[cfg(test)]
+mod rows_tests;
+#[cfg(test)]
 mod tests;
+#[cfg(test)]
+mod transcripts;

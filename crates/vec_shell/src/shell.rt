@@ -2,7 +2,7 @@ ghost use Rattle.std.specs.Prelude.{◌≡◌, ◌≢◌, ℕ, ◌<◌, List, []
 ghost use Rattle.vec_base.specs.Streams.{Rose};
 ghost use Rattle.row_model.specs.Shelled.{Answers, AnswersAll};
 ghost use Rattle.vec_shell.specs.declared.shell.Ending.TheVariants.{ReadFault};
-ghost use Rattle.vec_shell.specs.Forms.{Reads};
+ghost use Rattle.vec_shell.specs.Reads.{Reads};
 ghost use Rattle.vec_shell.specs.Headline.{Ran, streams};
 ghost use Rattle.vec_shell.specs.Parts.{Stands};
 ghost use Rattle.vec_shell.specs.Pieces.{trim};

@@ -21,7 +21,7 @@ const NEAREST: &str = "SELECT rowid, distance FROM v WHERE a MATCH vec_int8('[0,
 
 /// How a source and a sink in memory behave: bytes in a read, the read and the write that fail, and the sink's room.
 #[derive(Clone, Copy)]
-struct Setting {
+pub(crate) struct Setting {
     piece: usize,
     failing_read: u64,
     failing_write: u64,
@@ -29,7 +29,7 @@ struct Setting {
 }
 
 /// No call fails.
-fn whole(piece: usize) -> Setting {
+pub(crate) fn whole(piece: usize) -> Setting {
     Setting {
         piece,
         failing_read: 0,
@@ -46,7 +46,7 @@ fn only(alloc: Global, number: u64) -> Result<List<u64>, Fail> {
 }
 
 /// The status and the output of a run.
-fn ran(alloc: Global, word: &str, input: &[u8], setting: &Setting) -> Result<(u8, Vec<u8>), Fail> {
+pub(crate) fn ran(alloc: Global, word: &str, input: &[u8], setting: &Setting) -> Result<(u8, Vec<u8>), Fail> {
     let mut words = Vec::new(alloc);
     words.push(String::from_str(alloc, word)?)?;
     let bytes = Bytes::from_slice(alloc, input).or(Err("no memory"))?;
@@ -75,7 +75,7 @@ fn rows_come_by_rowid_however_the_input_is_cut(rt: HostRuntime) -> Result<(), Fa
 #[test]
 fn refusals_are_answered_and_the_run_goes_on(rt: HostRuntime) -> Result<(), Fail> {
     let alloc = rt.alloc();
-    let input = format!(in alloc; "{ROWS}{TABLE}{SEVEN}{SEVEN} DROP TABLE v; {TABLE}{ROWS}")?;
+    let input = format!(in alloc; "{ROWS}{TABLE}{SEVEN}{SEVEN} SAVEPOINT v; {TABLE}{ROWS}")?;
     let wanted = "error 5 no table\nok\nok inserted 1 last 7\nerror 17 duplicate rowid 7\n\
         error 2 unsupported form\nerror 6 table exists\n7|vec_int8('[1,2]')\nrows 1\n";
     for piece in [1, 2, 3, 4, 5, 6, 7, 8, 65536usize] {
@@ -87,74 +87,18 @@ fn refusals_are_answered_and_the_run_goes_on(rt: HostRuntime) -> Result<(), Fail
 }
 
 #[test]
-fn texts_are_read_as_they_are_spelled(rt: HostRuntime) -> Result<(), Fail> {
+fn every_input_gets_its_replies(rt: HostRuntime) -> Result<(), Fail> {
     let alloc = rt.alloc();
-    let form = "error 2 unsupported form\n";
-    let cases: [(&[u8], &str); 28] = [
+    let cases: [(&[u8], &str); 9] = [
         (b"", ""),
         (b" \t\n\x0c\r;; ;", ""),
         (b"\0", "error 1 syntax at 0\n"),
         (b"\xff;", "error 1 syntax at 0\n"),
         (b"SELECT #", "error 1 syntax at 7\n"),
-        (b"SELECT 'a' x'0", "error 1 syntax at 11\n"),
-        (
-            b"select rowid, Distance from v where a match VEC_INT8('[]') and K = -9223372036854775809",
-            form,
-        ),
-        (b"SELECT rowid, a FROM v", "error 5 no table\n"),
-        (b"select ROWID ,a\nfrom V ;", "error 5 no table\n"),
-        (b"SELECT rowid a FROM v;", form),
-        (b"SELECT rowid, a FROM v v;", form),
-        (
-            b"'a;b';'c",
-            "error 2 unsupported form\nerror 1 syntax at 0\n",
-        ),
-        (
-            b"create virtual table v using VEC0 ( A int8 [ 0001 ] )",
-            "ok\n",
-        ),
-        (b"CREATE VIRTUAL TABLE v USING vec0(a int8[8192])", "ok\n"),
-        (b"CREATE VIRTUAL TABLE v USING vec0(a int8[8193])", form),
-        (b"CREATE VIRTUAL TABLE v USING vec0(a int8[0])", form),
-        (b"CREATE VIRTUAL TABLE w USING vec0(a int8[1])", form),
-        (
-            b"INSERT INTO v(rowid, a) VALUES (1, vec_int8('[1]'))",
-            "error 5 no table\n",
-        ),
-        (
-            b"INSERT INTO v(rowid, a) VALUES (+9223372036854775807, vec_int8('[]'))",
-            "error 5 no table\n",
-        ),
-        (
-            b"INSERT INTO v(rowid, a) VALUES (-9223372036854775808, vec_int8(' [ -0 ] '))",
-            "error 5 no table\n",
-        ),
-        (
-            b"INSERT INTO v(rowid, a) VALUES (9223372036854775808, vec_int8('[1]'))",
-            form,
-        ),
-        (
-            b"INSERT INTO v(rowid, a) VALUES (-9223372036854775809, vec_int8('[1]'))",
-            form,
-        ),
-        (
-            b"INSERT INTO v(rowid, a) VALUES (1, vec_int8('[128]'))",
-            "error 1 syntax at 44\n",
-        ),
-        (
-            b"INSERT INTO v(rowid, a) VALUES (1, vec_int8('[01]'))",
-            "error 1 syntax at 44\n",
-        ),
-        (
-            b"INSERT INTO v(rowid, a) VALUES (1, vec_int8('[1'']'))",
-            "error 1 syntax at 44\n",
-        ),
-        (b"INSERT INTO v(rowid, a) VALUES (1, '[1]')", form),
-        (b"INSERT INTO v(rowid, a) VALUES (1, vec_int8(x'01'))", form),
-        (
-            b"INSERT INTO v(rowid, a) VALUES (- 1, vec_int8('[1]')",
-            form,
-        ),
+        (b"SELECT a FROM v WHERE a = 'a\xff'", "error 1 syntax at 26\n"),
+        (b"SELECT a FROM v WHERE m = 'a''", "error 1 syntax at 29\n"),
+        (b"SELECT rowid FROM v WHERE ;", "error 1 syntax at 26\n"),
+        (b"'a;b';'c", "error 1 syntax at 0\nerror 1 syntax at 0\n"),
     ];
     for (input, wanted) in cases {
         let (_, out) = ran(alloc, "shell", input, &whole(3))?;
@@ -192,41 +136,6 @@ fn rows_of_one_vector_come_by_rowid(rt: HostRuntime) -> Result<(), Fail> {
         "ok\nok inserted 1 last 9\nok inserted 1 last 4\nok inserted 1 last 7\n4|5\n7|5\nrows 2\n";
     let (status, out) = ran(alloc, "shell", input.as_bytes(), &whole(50))?;
     assert_eq!(rt; status, 0);
-    assert_eq!(rt; out.as_slice(), wanted.as_bytes());
-    Ok(())
-}
-
-#[test]
-fn rowids_are_assigned_above_the_top(rt: HostRuntime) -> Result<(), Fail> {
-    let alloc = rt.alloc();
-    let last = "INSERT INTO v(rowid, a) VALUES (9223372036854775807, vec_int8('[1,2]'));";
-    let input = format!(in alloc;
-        "{NEXT}{NEAREST}1;{TABLE}INSERT INTO v(rowid, a) VALUES (-5, vec_int8('[1,2]'));{NEXT}{last}{NEXT}\
-        INSERT INTO v(a) VALUES (vec_int8('[1]'));\
-        SELECT rowid, distance FROM v WHERE a MATCH vec_int8('[1]') AND k = -1"
-    )?;
-    let wanted = "error 5 no table\nerror 5 no table\nerror 5 no table\nok\nok inserted 1 last -5\n\
-        ok inserted 1 last 1\nok inserted 1 last 2\nok inserted 1 last 9223372036854775807\n\
-        error 18 rowids spent\nerror 18 rowids spent\n\
-        error 10 vector column 1 wants 2 got 1\nerror 10 vector column 1 wants 2 got 1\n";
-    let (status, out) = ran(alloc, "shell", input.as_bytes(), &whole(50))?;
-    assert_eq!(rt; status, 2);
-    assert_eq!(rt; out.as_slice(), wanted.as_bytes());
-    Ok(())
-}
-
-#[test]
-fn elements_and_shapes_are_kept(rt: HostRuntime) -> Result<(), Fail> {
-    let alloc = rt.alloc();
-    let input = format!(in alloc;
-        "{TABLE}INSERT INTO v(rowid, a) VALUES (-5, vec_int8('[-128, 127]'));{SEVEN}{THREE}\
-        INSERT INTO v(rowid, a) VALUES (7, vec_int8('[1,2,3]'));{ROWS}"
-    )?;
-    let wanted = "ok\nok inserted 1 last -5\nok inserted 1 last 7\nok inserted 1 last 3\n\
-        error 10 vector column 1 wants 2 got 3\n\
-        -5|vec_int8('[-128,127]')\n3|vec_int8('[3,4]')\n7|vec_int8('[1,2]')\nrows 3\n";
-    let (status, out) = ran(alloc, "shell", input.as_bytes(), &whole(100))?;
-    assert_eq!(rt; status, 2);
     assert_eq!(rt; out.as_slice(), wanted.as_bytes());
     Ok(())
 }
@@ -273,7 +182,7 @@ const EXCHANGES: [(&str, &str); 10] = [
         ";SELECT rowid, distance FROM v WHERE a MATCH vec_int8('[0,0]') AND k = 2;",
         "1|5\n2|25\nrows 2\n",
     ),
-    ("DROP TABLE v;", "error 2 unsupported form\n"),
+    ("COMMIT;", "error 2 unsupported form\n"),
     (
         "INSERT INTO v(a) VALUES (vec_int8('[]'));",
         "error 10 vector column 1 wants 2 got 0\n",

@@ -1,11 +1,15 @@
-ghost use Rattle.std.specs.Prelude.{◌≡◌, ◌⊎◌, ◌↔◌, true, false, map, codes, string_bytes};
+ghost use Rattle.std.specs.Prelude.{◌≡◌, ◌⊎◌, ◌↔◌, true, false, map, codes, string_bytes, IfOk};
 ghost use Rattle.vec_base.specs.Streams.{Rose};
 ghost use Rattle.vec_shell.specs.Headline.{streams};
+ghost use Rattle.row_model.specs.declared.request.Request.TheVariants.{OpenSession};
+ghost use Rattle.row_model.specs.declared.request.Reply.TheVariants.{Session as Opened};
 ghost use Rattle.row_model.specs.declared.state.State.{State};
+ghost use Rattle.row_model.specs.Machine.{first_state, no_tables};
+ghost use Rattle.row_model.specs.Step.{answer_of};
 ghost use Rattle.vec_shell.specs.Outcome.{is_shell, LastLine, NoneRefused, OnlyStarved, RanShell, RanWhole, SomeRefused};
 
-use crate::list_session::ListSession;
 use crate::output::write_all;
+use crate::plain_session::PlainSession;
 use crate::shell::{Room, run_session};
 use std::alloc::Global;
 use vec_base::{Memory, Sink, Source};
@@ -17,6 +21,13 @@ fn is_shell(words: &[String]) -> bool
         [word] => word.as_str() == "shell",
         _ => false,
     }
+}
+
+/// The memory of a run, and its session.
+fn open(alloc: Global) -> Result<(Room, PlainSession), Memory>
+    ensures { IfOk result (λ opened. answer_of (first_state no_tables) OpenSession ≡ (Opened 1, opened.1.engine)) }
+{
+    Ok((Room::new(alloc)?, PlainSession::open(alloc)?))
 }
 
 /// All that the program does; the words are those after its name. Answers the exit status.
@@ -51,8 +62,8 @@ pub fn run<S: Source, O: Sink>(alloc: Global, words: &[String], source: &mut S, 
         let _ = write_all(sink, b"error words\n");
         return 1;
     }
-    match Room::new(alloc) {
-        Ok(room) => run_session(alloc, room, ListSession::new(alloc), source, sink).status,
+    match open(alloc) {
+        Ok((room, session)) => run_session(alloc, room, session, source, sink).status,
         Err(Memory) => {
             let _ = write_all(sink, b"error memory\n");
             7

@@ -3,13 +3,13 @@ ghost use Rattle.std.specs.Fmt.{decimal, signed_decimal};
 ghost use Rattle.std.specs.List.{flat_map};
 ghost use Rattle.row_model.specs.RefusalTexts.{unsupported_word, refusal_text};
 ghost use Rattle.vec_literal.specs.Int8.{elements_text, int8_text};
-ghost use Rattle.vec_shell.specs.Lines.{doubled, hex_byte, hex_text, value_text, values_text, row_line, lines};
+ghost use Rattle.vec_shell.specs.Lines.{doubled, hex_byte, hex_text, value_text, values_text, row_line, shape_text, lines};
 ghost use Rattle.vec_shell.specs.Puts.{Puts, element_text, further_elements, further_values};
 ghost use Rattle.vec_shell.specs.Sending.{Sent};
 
 use crate::output::Output;
 use itoa::Buffer;
-use row_model::Reply;
+use row_model::{Reply, Shape};
 use vec_base::{List, Refusal, Sink, Value};
 
 /// Writes a number in decimal.
@@ -446,6 +446,29 @@ fn put_inserted<O: Sink>(output: &mut Output, sink: &mut O, count: u64, last: &i
     output.put_byte(sink, b'\n');
 }
 
+/// Writes how many rows were changed.
+fn put_changed<O: Sink>(output: &mut Output, sink: &mut O, count: u64)
+    ensures { Puts (lines (Reply.Changed count))
+        output.old (O.taken sink.old) (O.faults sink.old)
+        output.new (O.taken sink.new) (O.faults sink.new) }
+{
+    put_numbered(output, sink, b"ok changed ", count);
+    output.put_byte(sink, b'\n');
+}
+
+/// Writes how a SELECT is carried out.
+fn put_shape_line<O: Sink>(output: &mut Output, sink: &mut O, shape: Shape)
+    ensures { Puts (shape_text shape)
+        output.old (O.taken sink.old) (O.faults sink.old)
+        output.new (O.taken sink.new) (O.faults sink.new) }
+{
+    match shape {
+        Shape::Point => output.put(sink, b"plan point\n"),
+        Shape::Scan => output.put(sink, b"plan scan\n"),
+        Shape::Nearest => output.put(sink, b"plan nearest\n"),
+    }
+}
+
 /// Writes the rows, and how many there are.
 fn put_answer<O: Sink>(output: &mut Output, sink: &mut O, rows: &List<List<Value>>)
     ensures { Puts (lines (Reply.Rows rows.now))
@@ -457,7 +480,7 @@ fn put_answer<O: Sink>(output: &mut Output, sink: &mut O, rows: &List<List<Value
     output.put_byte(sink, b'\n');
 }
 
-/// Writes the lines of a reply. That a session was opened has none.
+/// Writes the lines of a reply. Replies on sessions and cursors have none.
 fn put_reply<O: Sink>(output: &mut Output, sink: &mut O, reply: &Reply)
     ensures { Puts (lines reply.now)
         output.old (O.taken sink.old) (O.faults sink.old)
@@ -467,7 +490,9 @@ fn put_reply<O: Sink>(output: &mut Output, sink: &mut O, reply: &Reply)
         Reply::Done => output.put(sink, b"ok\n"),
         Reply::Inserted(count, last) => put_inserted(output, sink, *count, last),
         Reply::Rows(rows) => put_answer(output, sink, rows),
-        Reply::Session(_) => {}
+        Reply::Changed(count) => put_changed(output, sink, *count),
+        Reply::Planned(shape) => put_shape_line(output, sink, *shape),
+        Reply::Session(_) | Reply::Cursor(_) | Reply::Page(_, _) => {}
         Reply::Refused(refusal) => put_refusal(output, sink, refusal),
     }
 }
