@@ -6,4 +6,6 @@ pub mod RuleExamples
 pub mod RunLaws
 pub mod SchemaLaws
 pub mod SelectLaws
+pub mod ValidityInserts
+pub mod ValidityRows
 pub mod Worked

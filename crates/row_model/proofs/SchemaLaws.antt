@@ -117,7 +117,7 @@ narrow_columns schema valid = let few = few_columns schema valid in omega (arith
 -- ---- a declared place
 
 -- the kind of its column
-abbrev kind_at : Place → Kind
+abbrev pub kind_at : Place → Kind
 kind_at (Declared number kind) = kind
 kind_at _ = IntKey
 
@@ -154,7 +154,7 @@ declared_sort sort name n (column ∷ columns) number kind none h =
     ] h
 
 -- its number is not below the first
-declared_from : (name : List ℕ) (n : ℕ) (columns : List Column) (number : ℕ) (kind : Kind) → declared_place name n columns ≡ Declared number kind → n ≤ number
+pub declared_from : (name : List ℕ) (n : ℕ) (columns : List Column) (number : ℕ) (kind : Kind) → declared_place name n columns ≡ Declared number kind → n ≤ number
 declared_from name n [] number kind h = absurd cc
 declared_from name n (column ∷ columns) number kind h =
     elim (bytes_eq column.name name) as (λ b. (if b then Declared n column.kind else declared_place name (n + 1) columns) ≡ Declared number kind → n ≤ number) [

@@ -53,7 +53,7 @@ pub when_empty : (test : Bool) (refusal : Refusal) → when test refusal ≡ [] 
 when_empty true refusal h = absurd cc
 when_empty false refusal h = refl
 
-not_false : (b : Bool) → not b ≡ false → b ≡ true
+pub not_false : (b : Bool) → not b ≡ false → b ≡ true
 not_false true h = refl
 not_false false h = cc
 
