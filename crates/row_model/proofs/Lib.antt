@@ -8,4 +8,5 @@ pub mod SchemaLaws
 pub mod SelectLaws
 pub mod ValidityInserts
 pub mod ValidityRows
+pub mod ValidityTables
 pub mod Worked
