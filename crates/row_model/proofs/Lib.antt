@@ -6,7 +6,9 @@ pub mod RuleExamples
 pub mod RunLaws
 pub mod SchemaLaws
 pub mod SelectLaws
+pub mod ValidityChanges
 pub mod ValidityInserts
 pub mod ValidityRows
+pub mod ValiditySessions
 pub mod ValidityTables
 pub mod Worked
