@@ -1,17 +1,17 @@
 -- Valid tables stay valid where rows are inserted.
-use Rattle.std.proofs.Common.{◌≡◌, ℕ, zero, suc, ℤ, pos, ◌+ℤ◌, ◌+◌, ◌-◌, ◌<◌, ◌≤◌, Bool, true, false, cond, List, [], ◌∷◌, ◌++◌, ◌∙◌, refl, sym, ap, ap₂, subst, arith, map, length, slice_index_or, slice_set, inl, inr, ◌⊎◌, length-set, Some, None, Ok, Err}
-use Rattle.std.specs.Prelude.{◌==◌, ◌&&◌, ◌||◌, not, nat_lt, nat_le, bytes_eq, find, int_lt, int_le, sum_by, if◌then◌else◌}
+use Rattle.std.proofs.Common.{◌≡◌, ℕ, suc, ℤ, pos, ◌+ℤ◌, ◌+◌, ◌-◌, ◌<◌, ◌≤◌, Bool, true, false, cond, List, [], ◌∷◌, ◌++◌, ◌∙◌, refl, sym, ap, subst, arith, map, length, slice_set, inl, inr, ◌⊎◌, length-set, Some, None, Ok, Err}
+use Rattle.std.specs.Prelude.{◌==◌, ◌&&◌, ◌||◌, not, bytes_eq, find, int_lt, int_le, sum_by, if◌then◌else◌}
 use Rattle.std.specs.List.{list_all, list_any, AllByRecursion, flat_map}
 use Rattle.std.specs.Ordering.{int_eq}
 use Rattle.std.specs.declared.option.Option.{Option}
 use Rattle.std.specs.declared.result.Result.{Result}
-use Rattle.std.proofs.lemmas.Bool.{and_parts, and_from, cases_Bool, ltb-false, le-leb, leb-true, eqb-true, ne_eqb}
+use Rattle.std.proofs.lemmas.Bool.{and_parts, and_from, cases_Bool, le-leb, eqb-true, ne_eqb}
 use Rattle.std.proofs.lemmas.Int.{ints}
 use Rattle.std.proofs.lemmas.List.Sums.{sum_by-cons}
 use Rattle.vec_base.specs.declared.refusal.Refusal.{Refusal}
 use Rattle.vec_base.specs.declared.refusal.Refusal.TheVariants.{NoColumn, FixedColumn, NotNull, Duplicate, RowidsSpent}
 use Rattle.vec_base.specs.declared.value.Value.{Value}
-use Rattle.vec_base.specs.declared.value.Value.TheVariants.{Null, Int, Text, Blob, Int8, Bits}
+use Rattle.vec_base.specs.declared.value.Value.TheVariants.{Null}
 use Rattle.row_model.specs.declared.row.Row.{Row}
 use Rattle.row_model.specs.declared.row.Table.{Table}
 use Rattle.row_model.specs.declared.schema.Column.{Column}
@@ -20,14 +20,14 @@ use Rattle.row_model.specs.declared.schema.Kind.TheVariants.{IntKey, TextKey, In
 use Rattle.row_model.specs.declared.schema.Place.{Place}
 use Rattle.row_model.specs.declared.schema.Place.TheVariants.{Unknown, Rowid, Declared, Count, Distance}
 use Rattle.row_model.specs.declared.statement.Insert.{Insert}
-use Rattle.row_model.specs.Change.{Elsewhere, put_at, put_all, keyed_value, keyed, blank, row_of, given_rowid, last_number, assigned, larger, same_id, taken_rowid, duplicate, taken_id, spent, long_values, room_refusals, row_refusals, new_row, group_refusals, with_new_row, or_grown, grown, rows_vector_bytes, rows_side_bytes}
+use Rattle.row_model.specs.Change.{Elsewhere, put_at, put_all, keyed_value, keyed, blank, row_of, given_rowid, last_number, assigned, larger, same_id, taken_rowid, duplicate, taken_id, spent, long_values, room_refusals, new_row, group_refusals, with_new_row, or_grown, grown, rows_vector_bytes, rows_side_bytes}
 use Rattle.row_model.specs.Check.{next, repeats, named_faults, list_faults, row_faults, left_out_faults, group_faults}
-use Rattle.row_model.specs.Columns.{place_of, declared_place, column_number, root, declared_root, is_stored, has_text_key}
+use Rattle.row_model.specs.Columns.{place_of, declared_place, column_number, root, is_stored, has_text_key}
 use Rattle.row_model.specs.Limits.{over_rows, over_vectors, over_sides}
 use Rattle.row_model.specs.Lists.{when, first}
-use Rattle.row_model.specs.Rows.{has_rowid, with_row, is_rising}
+use Rattle.row_model.specs.Rows.{has_rowid, with_row}
 use Rattle.row_model.specs.Schemas.{is_auxiliary}
-use Rattle.row_model.specs.Valid.{is_number, is_fitting, is_valid_value, are_valid_values, is_valid_row, have_own_ids, is_top, IsValidTable}
+use Rattle.row_model.specs.Valid.{is_fitting, is_valid_value, are_valid_values, is_valid_row, have_own_ids, is_top, IsValidTable}
 use Rattle.row_model.specs.Values.{is_null, is_needed, given_faults, side_bytes, row_side_bytes, row_vector_bytes}
 use Rattle.row_model.proofs.RowLaws.{is_rising-with_row}
 use Rattle.row_model.proofs.SchemaLaws.{kind_at, place_declared, declared_from}
@@ -114,21 +114,21 @@ ready_put name places n [] number kind values value one h fits ready = absurd cc
 ready_put name places n (column ∷ columns) number kind [] value one h fits ready = absurd cc
 ready_put name places n (column ∷ columns) number kind (v ∷ vs) value one h fits ready =
     elim (bytes_eq column.name name) as (λ b. (if b then Declared n column.kind else declared_place name (n + 1) columns) ≡ Declared number kind →
-        are_ready (Declared number kind ∷ places) n (column ∷ columns) (slice_set (v ∷ vs) (number - n) value) ≡ true) [
+    are_ready (Declared number kind ∷ places) n (column ∷ columns) (slice_set (v ∷ vs) (number - n) value) ≡ true) [
       | true ↦ λ e.
           let same = ap column_number e in
           let here : number - n ≡ 0 = omega (arith, same) in
           let most = root_at_most number kind in
           let P : Kind → Type 0 = λ k. (is_int_key k || (is_plainly_valid k value || (not (is_given (Declared number kind ∷ places) n) && is_null value))) ≡ true in
           rw here (and_from _ _ (subst P (sym (ap kind_at e)) (or_more (is_int_key kind) (is_plainly_valid kind value) _ fits))
-            (ready_beside (Declared number kind) places (n + 1) columns vs (omega (arith, most, same)) (and_parts _ _ ready).1))
+          (ready_beside (Declared number kind) places (n + 1) columns vs (omega (arith, most, same)) (and_parts _ _ ready).1))
       | false ↦ λ e.
           let above = declared_from name (n + 1) columns number kind e in
           let later : number - n ≡ suc (number - (n + 1)) = omega (arith, above) in
           let other = other_root number n kind one (omega (arith, above)) in
           let given : is_given (Declared number kind ∷ places) n ≡ is_given places n = ap (λ b. b || is_given places n) other in
           rw later (and_from _ _ (ap (λ b. is_ready b column.kind v) given ∙ (and_parts _ _ ready).0)
-            (ready_put name places (n + 1) columns number kind vs value (omega (arith, one)) e fits (and_parts _ _ ready).1))
+          (ready_put name places (n + 1) columns number kind vs value (omega (arith, one)) e fits (and_parts _ _ ready).1))
     ] h
   where
     or_more : (a b c : Bool) → (a || b) ≡ true → (a || (b || c)) ≡ true
@@ -174,6 +174,7 @@ given_from n places done h = by_either n places done (or_left (is_given places n
     move true true c e = refl
     move true false c e = refl
     move false b c e = e
+
     by_either : (n : ℕ) (places done : List Place) → (is_given places n || is_given done n) ≡ true → is_given (given_after places done) n ≡ true
     by_either n [] done h = h
     by_either n (place ∷ places) done h = by_either n places (place ∷ done) (move (root place == n) (is_given places n) (is_given done n) h)
@@ -203,6 +204,7 @@ keyed_one kind given rowid value ready left =
     by_key IntAux e = absurd cc
     by_key TextAux e = absurd cc
     by_key BlobAux e = absurd cc
+
     by_other : (kind : Kind) → is_int_key kind ≡ false → is_valid_value kind rowid value ≡ true → is_valid_value kind rowid (keyed_value kind rowid value) ≡ true
     by_other IntKey e h = absurd cc
     by_other TextKey e h = h
@@ -216,19 +218,23 @@ keyed_one kind given rowid value ready left =
     by_other IntAux e h = h
     by_other TextAux e h = h
     by_other BlobAux e h = h
+
     null_valid : (b : Bool) → b ≡ true → is_auxiliary kind ≡ true → (if b then is_auxiliary kind else is_fitting kind value) ≡ true
     null_valid true e h = h
     null_valid false e h = absurd cc
+
     not_needed : (a b : Bool) → (a && not b) ≡ false → b ≡ false → a ≡ false
     not_needed true true h e = absurd cc
     not_needed true false h e = absurd cc
     not_needed false b h e = refl
+
     by_parts : (a b c d : Bool) → (a || (b || (not c && d))) ≡ true → a ≡ false → (b ≡ true) ⊎ ((c ≡ false) × (d ≡ true))
     by_parts true b c d h e = absurd cc
     by_parts false true c d h e = inl refl
     by_parts false false true d h e = absurd cc
     by_parts false false false true h e = inr (refl, refl)
     by_parts false false false false h e = absurd cc
+
     plain : is_int_key kind ≡ false → is_plainly_valid kind value ≡ true
     plain no_key = elim (by_parts (is_int_key kind) (is_plainly_valid kind value) given (is_null value) ready no_key) [
       | inl valid ↦ valid
@@ -354,6 +360,7 @@ larger_first a b = elim (cases_Bool (int_lt a b)) [
   where
     up : (a b : ℤ) → int_lt a b ≡ true → int_le a b ≡ true
     up a b h = grind (arith, ints)
+
     itself : (a : ℤ) → int_le a a ≡ true
     itself a = grind (arith, ints)
 
@@ -365,6 +372,7 @@ larger_second a b = elim (cases_Bool (int_lt a b)) [
   where
     down : (a b : ℤ) → int_lt a b ≡ false → int_le b a ≡ true
     down a b h = grind (arith, ints)
+
     itself : (a : ℤ) → int_le a a ≡ true
     itself a = grind (arith, ints)
 

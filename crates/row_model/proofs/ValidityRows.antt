@@ -1,12 +1,10 @@
 -- Valid tables stay valid where rows are removed and where their values are set.
-use Rattle.std.proofs.Common.{◌≡◌, ℕ, zero, suc, ℤ, ◌+◌, ◌-◌, ◌<◌, ◌≤◌, Bool, true, false, cond, List, [], ◌∷◌, ◌++◌, ◌∙◌, refl, sym, ap, ap₂, subst, arith, map, length, slice_index_or, slice_set, inl, inr}
-use Rattle.std.specs.Prelude.{◌==◌, ◌&&◌, ◌||◌, not, nat_lt, nat_le, min, filter, bytes_eq, int_lt, int_le, sum_by, if◌then◌else◌, Some, None}
+use Rattle.std.proofs.Common.{◌≡◌, ℕ, suc, ℤ, ◌+◌, ◌-◌, ◌<◌, ◌≤◌, Bool, true, false, cond, List, [], ◌∷◌, ◌++◌, ◌∙◌, refl, sym, ap, ap₂, subst, arith, map, length, slice_set, inl, inr}
+use Rattle.std.specs.Prelude.{◌&&◌, ◌||◌, not, nat_lt, nat_le, min, filter, bytes_eq, int_lt, int_le, sum_by, if◌then◌else◌}
 use Rattle.std.specs.List.{list_all, list_any, AllByRecursion}
-use Rattle.std.specs.Bool.{Decides}
 use Rattle.std.proofs.lemmas.Bool.{and_parts, and_from, cases_Bool, ltb-false, le-leb, leb-true}
 use Rattle.std.proofs.lemmas.List.Sums.{sum_by-cons, length-filter, count_by-le-length}
 use Rattle.std.proofs.lemmas.Slice.Eq.{bytes_eq-Decides}
-use Rattle.vec_base.specs.declared.refusal.Refusal.{Refusal}
 use Rattle.vec_base.specs.declared.refusal.Refusal.TheVariants.{NoColumn, WrongType, VectorShape, NotNull, FixedColumn, Full}
 use Rattle.vec_base.specs.declared.value.Value.{Value}
 use Rattle.vec_base.specs.declared.value.Value.TheVariants.{Null, Int, Text, Blob, Int8, Bits}
@@ -20,9 +18,9 @@ use Rattle.row_model.specs.declared.schema.Place.TheVariants.{Unknown, Rowid, De
 use Rattle.row_model.specs.declared.statement.Assign.{Assign}
 use Rattle.row_model.specs.declared.statement.Update.{Update}
 use Rattle.row_model.specs.Answer.{met}
-use Rattle.row_model.specs.Change.{put_at, set_all, updated_row, updated, with_rows, long_values, is_the_text, is_same_text, same_id}
+use Rattle.row_model.specs.Change.{put_at, set_all, updated_row, updated, with_rows, long_values, is_same_text, same_id}
 use Rattle.row_model.specs.Check.{next, repeats, is_fixed, set_faults, sets_faults}
-use Rattle.row_model.specs.Columns.{place_of, declared_place, column_number, is_stored, is_rowid_or_key, is_text_key, is_of}
+use Rattle.row_model.specs.Columns.{place_of, declared_place, column_number, is_stored, is_text_key}
 use Rattle.row_model.specs.Limits.{over, over_value}
 use Rattle.row_model.specs.Lists.{when}
 use Rattle.row_model.specs.Rows.{is_rising}
@@ -62,9 +60,10 @@ all_filter p such (x ∷ xs) h =
 pub none_filter : {A : Type 0} (p such : A → Bool) (xs : List A) → list_any p xs ≡ false → list_any p (filter such xs) ≡ false
 none_filter p such [] h = refl
 none_filter p such (x ∷ xs) h =
-    elim (such x) as (λ b. list_any p (cond b (x ∷ filter such xs) (filter such xs)) ≡ false)
-    [ true ↦ or_none (p x) _ (or_first (p x) (list_any p xs) h) (none_filter p such xs (or_second (p x) (list_any p xs) h))
-    | false ↦ none_filter p such xs (or_second (p x) (list_any p xs) h) ]
+    elim (such x) as (λ b. list_any p (cond b (x ∷ filter such xs) (filter such xs)) ≡ false) [
+      | true ↦ or_none (p x) _ (or_first (p x) (list_any p xs) h) (none_filter p such xs (or_second (p x) (list_any p xs) h))
+      | false ↦ none_filter p such xs (or_second (p x) (list_any p xs) h)
+    ]
 
 pub sum_filter : {A : Type 0} (f : A → ℕ) (such : A → Bool) (xs : List A) → sum_by f (filter such xs) ≤ sum_by f xs
 sum_filter f such [] = omega arith
@@ -204,7 +203,7 @@ valid_put name n [] number kind rowid values value h fits valid = absurd cc
 valid_put name n (column ∷ columns) number kind rowid [] value h fits valid = absurd cc
 valid_put name n (column ∷ columns) number kind rowid (v ∷ vs) value h fits valid =
     elim (bytes_eq column.name name) as (λ b. (if b then Declared n column.kind else declared_place name (n + 1) columns) ≡ Declared number kind →
-        are_valid_values (column ∷ columns) rowid (slice_set (v ∷ vs) (number - n) value) ≡ true) [
+    are_valid_values (column ∷ columns) rowid (slice_set (v ∷ vs) (number - n) value) ≡ true) [
       | true ↦ λ e.
           let same = ap column_number e in
           let here : number - n ≡ 0 = omega (arith, same) in
@@ -290,7 +289,7 @@ same_id-put name n (column ∷ columns) number kind [] vs value h plain = refl
 same_id-put name n (column ∷ columns) number kind (u ∷ us) [] value h plain = same_id-none column columns (slice_set (u ∷ us) (number - n) value)
 same_id-put name n (column ∷ columns) number kind (u ∷ us) (v ∷ vs) value h plain =
     elim (bytes_eq column.name name) as (λ b. (if b then Declared n column.kind else declared_place name (n + 1) columns) ≡ Declared number kind →
-        same_id (column ∷ columns) (slice_set (u ∷ us) (number - n) value) (v ∷ vs) ≡ same_id (column ∷ columns) (u ∷ us) (v ∷ vs)) [
+    same_id (column ∷ columns) (slice_set (u ∷ us) (number - n) value) (v ∷ vs) ≡ same_id (column ∷ columns) (u ∷ us) (v ∷ vs)) [
       | true ↦ λ e.
           let same = ap column_number e in
           let here : number - n ≡ 0 = omega (arith, same) in
@@ -384,6 +383,7 @@ own_ids_map columns f keeps (r ∷ rs) h =
   where
     one : (x : Row) → same_id columns (f r).values (f x).values ≡ same_id columns r.values x.values
     one x = keeps.id r (f x).values ∙ same_id-sym columns r.values (f x).values ∙ keeps.id x r.values ∙ same_id-sym columns x.values r.values
+
     alone : (rs : List Row) → list_any (λ later. same_id columns r.values later.values) rs ≡ false → list_any (λ later. same_id columns (f r).values later.values) (map f rs) ≡ false
     alone [] g = refl
     alone (x ∷ xs) g =
@@ -418,7 +418,7 @@ updated_keeps : (columns : List Column) (update : Update) → AllByRecursion (Is
 updated_keeps columns update sets = record {
   rowid = λ r. elim (meets_all columns update.wanted r) as (λ b. (if b then record r { values = set_all columns update.sets r.values } else r).rowid ≡ r.rowid) [ true ↦ refl | false ↦ refl ];
   id = λ r vs. elim (meets_all columns update.wanted r) as (λ b. same_id columns (if b then record r { values = set_all columns update.sets r.values } else r).values vs ≡ same_id columns r.values vs)
-    [ true ↦ same_id-sets columns update.sets r.values vs sets | false ↦ refl ];
+      [ true ↦ same_id-sets columns update.sets r.values vs sets | false ↦ refl ];
 }
 
 updated_values : (columns : List Column) (update : Update) (rows : List Row) → AllByRecursion (IsSet columns) update.sets → long_values (map (λ set. set.value) update.sets) ≡ [] →
@@ -427,7 +427,7 @@ updated_values columns update [] sets short valid = refl
 updated_values columns update (r ∷ rs) sets short valid =
     and_from _ _
     (elim (meets_all columns update.wanted r) as (λ b. is_valid_row columns (if b then record r { values = set_all columns update.sets r.values } else r) ≡ true)
-      [ true ↦ valid_sets columns r.rowid update.sets r.values sets short (and_parts _ _ valid).0 | false ↦ (and_parts _ _ valid).0 ])
+    [ true ↦ valid_sets columns r.rowid update.sets r.values sets short (and_parts _ _ valid).0 | false ↦ (and_parts _ _ valid).0 ])
     (updated_values columns update rs sets short (and_parts _ _ valid).1)
 
 -- where no row meets the terms nothing is changed
@@ -435,7 +435,7 @@ updated_none : (columns : List Column) (update : Update) (rows : List Row) → m
 updated_none columns update [] none = refl
 updated_none columns update (r ∷ rs) none =
     elim (meets_all columns update.wanted r) as (λ b. cond b (r ∷ met columns update.wanted rs) (met columns update.wanted rs) ≡ [] →
-        (if b then record r { values = set_all columns update.sets r.values } else r) ∷ updated columns update rs ≡ r ∷ rs)
+    (if b then record r { values = set_all columns update.sets r.values } else r) ∷ updated columns update rs ≡ r ∷ rs)
     [ true ↦ λ e. absurd cc | false ↦ λ e. ap (λ xs. r ∷ xs) (updated_none columns update rs e) ] none
 
 empty_from : {A : Type 0} (xs : List A) → nat_lt 0 (length xs) ≡ false → xs ≡ []

@@ -1,17 +1,14 @@
 -- Sessions of a valid state: one is found, replaced, removed or added.
-use Rattle.std.proofs.Common.{◌≡◌, ℕ, zero, suc, ◌+◌, ◌<◌, ◌≤◌, Bool, true, false, cond, List, [], ◌∷◌, ◌++◌, ◌∙◌, refl, sym, ap, ap₂, subst, arith, length, inl, inr, Some, None}
-use Rattle.std.specs.Prelude.{◌==◌, ◌&&◌, ◌||◌, not, nat_lt, nat_le, find, count_by, if◌then◌else◌, ⊤}
-use Rattle.std.specs.List.{list_all, list_any, AllByRecursion}
+use Rattle.std.proofs.Common.{◌≡◌, ℕ, ◌+◌, ◌≤◌, Bool, true, false, cond, List, [], ◌∷◌, ◌++◌, ◌∙◌, refl, sym, ap, ap₂, subst, arith, inl, inr, Some, None}
+use Rattle.std.specs.Prelude.{◌==◌, ◌&&◌, ◌||◌, not, nat_le, if◌then◌else◌}
+use Rattle.std.specs.List.{list_all, AllByRecursion}
 use Rattle.std.specs.declared.option.Option.{Option}
-use Rattle.std.proofs.lemmas.Bool.{and_parts, and_from, cases_Bool, le-leb, leb-true, eqb-true, ne_eqb, eqb-false}
+use Rattle.std.proofs.lemmas.Bool.{and_parts, and_from, cases_Bool, le-leb, leb-true, eqb-true, ne_eqb}
 use Rattle.std.proofs.lemmas.List.Sums.{sum_by-cons}
-use Rattle.row_model.specs.declared.state.Phase.{Phase}
-use Rattle.row_model.specs.declared.state.Phase.TheVariants.{Idle, Reading, Writing}
 use Rattle.row_model.specs.declared.state.Session.{Session}
-use Rattle.row_model.specs.declared.state.State.{State}
 use Rattle.row_model.specs.Machine.{is_writing, session_of, with_session, without_session, writer_beside}
 use Rattle.row_model.specs.Step.{busy}
-use Rattle.row_model.specs.Valid.{has_id, have_own_session_ids, writer_count, IsValidSession}
+use Rattle.row_model.specs.Valid.{has_id, have_own_session_ids, writer_count}
 use Rattle.row_model.proofs.ValidityRows.{not_from, not_true, or_first, or_second, or_none}
 
 -- ---- a session that is found
@@ -125,6 +122,7 @@ writers_alone id old sessions found own free = by_list sessions found own (none_
     none_busy : (o : Option Session) → busy o ≡ [] → o ≡ None
     none_busy None h = refl
     none_busy (Some s) h = absurd cc
+
     by_list : (sessions : List Session) → session_of id sessions ≡ Some old → have_own_session_ids sessions ≡ true → writer_beside id sessions ≡ None → writer_count sessions ≡ one_if (is_writing old.phase)
     by_list [] found own none = absurd cc
     by_list (s ∷ ss) found own none =
@@ -133,7 +131,7 @@ writers_alone id old sessions found own free = by_list sessions found own (none_
           | inl same ↦
               let it : s ≡ old = ap (session_or s) (sym (ap (λ b. cond b (Some s) (session_of id ss)) same) ∙ found) in
               let old_one : one_if (is_writing s.phase) ≡ one_if (is_writing old.phase) = ap (λ (x : Session). one_if (is_writing x.phase)) it in
-              let absent : has_id id ss ≡ false = ap (λ n. has_id n ss) (sym (eqb-true s.id id same)) ∙ not_true _ (and_parts _ _ own).0 in
+              let absent : has_id id ss ≡ false = ap (λ n. has_id n ss) (sym (eqb-true s.id id same)) ∙ not_true (has_id s.id ss) (and_parts (not (has_id s.id ss)) (have_own_session_ids ss) own).0 in
               let later : writer_beside id ss ≡ None = sym (ap (λ b. cond (not b && is_writing s.phase) (Some s) (writer_beside id ss)) same) ∙ none in
               let rest : writer_count ss ≡ 0 = writers_none id ss absent later in
               omega (arith, whole, old_one, rest)
@@ -144,7 +142,7 @@ writers_alone id old sessions found own free = by_list sessions found own (none_
                 | inl writes ↦ absurd (chosen_is_there (not (s.id == id) && is_writing s.phase) s (writer_beside id ss) (test ∙ writes) none)
                 | inr reads ↦
                     let later : writer_beside id ss ≡ None = sym (ap (λ b. cond b (Some s) (writer_beside id ss)) (test ∙ reads)) ∙ none in
-                    let rest : writer_count ss ≡ one_if (is_writing old.phase) = by_list ss later_found (and_parts _ _ own).1 later in
+                    let rest : writer_count ss ≡ one_if (is_writing old.phase) = by_list ss later_found (and_parts (not (has_id s.id ss)) (have_own_session_ids ss) own).1 later in
                     let here : one_if (is_writing s.phase) ≡ 0 = ap one_if reads in
                     omega (arith, whole, rest, here)
               ]
@@ -167,9 +165,10 @@ all_removed p id (s ∷ ss) all =
 none_removed : (other id : ℕ) (sessions : List Session) → has_id other sessions ≡ false → has_id other (without_session id sessions) ≡ false
 none_removed other id [] none = refl
 none_removed other id (s ∷ ss) none =
-    elim (s.id == id) as (λ b. has_id other (if b then ss else s ∷ without_session id ss) ≡ false)
-    [ true ↦ or_second (s.id == other) (has_id other ss) none
-    | false ↦ or_none _ _ (or_first (s.id == other) (has_id other ss) none) (none_removed other id ss (or_second (s.id == other) (has_id other ss) none)) ]
+    elim (s.id == id) as (λ b. has_id other (if b then ss else s ∷ without_session id ss) ≡ false) [
+      | true ↦ or_second (s.id == other) (has_id other ss) none
+      | false ↦ or_none _ _ (or_first (s.id == other) (has_id other ss) none) (none_removed other id ss (or_second (s.id == other) (has_id other ss) none))
+    ]
 
 pub own_ids_removed : (id : ℕ) (sessions : List Session) → have_own_session_ids sessions ≡ true → have_own_session_ids (without_session id sessions) ≡ true
 own_ids_removed id [] own = refl

@@ -1,9 +1,9 @@
 -- Valid catalogs stay valid where a table is added, removed or changed.
-use Rattle.std.proofs.Common.{◌≡◌, ℕ, zero, suc, ℤ, pos, ◌+◌, ◌<◌, ◌≤◌, Bool, true, false, cond, List, [], ◌∷◌, ◌++◌, ◌∙◌, refl, sym, ap, ap₂, subst, arith, length, inl, inr, Some, None}
-use Rattle.std.specs.Prelude.{◌==◌, ◌&&◌, ◌||◌, not, nat_lt, nat_le, filter, bytes_eq, find, sum_by, if◌then◌else◌}
-use Rattle.std.specs.List.{list_all, list_any, AllByRecursion}
+use Rattle.std.proofs.Common.{◌≡◌, ℕ, pos, ◌+◌, ◌<◌, ◌≤◌, Bool, true, false, cond, List, [], ◌∷◌, ◌∙◌, refl, sym, ap, ap₂, subst, arith, length, inl, inr, Some, None}
+use Rattle.std.specs.Prelude.{◌==◌, ◌&&◌, ◌||◌, not, nat_lt, nat_le, filter, bytes_eq, sum_by, if◌then◌else◌}
+use Rattle.std.specs.List.{list_all, AllByRecursion}
 use Rattle.std.specs.declared.option.Option.{Option}
-use Rattle.std.proofs.lemmas.Bool.{and_parts, and_from, cases_Bool, ltb-true, ltb-false, lt-ltb, le-ltb, le-leb, leb-true, eqb-true, ne_eqb, eqb-false}
+use Rattle.std.proofs.lemmas.Bool.{and_parts, and_from, cases_Bool, ltb-true, lt-ltb, le-ltb, le-leb, leb-true, eqb-true, eqb-false}
 use Rattle.std.proofs.lemmas.List.Sums.{sum_by-cons}
 use Rattle.std.proofs.lemmas.Slice.Eq.{bytes_eq-Decides}
 use Rattle.vec_base.specs.Words.{is_name}
@@ -12,7 +12,7 @@ use Rattle.row_model.specs.declared.row.Named.{Named}
 use Rattle.row_model.specs.declared.row.Row.{Row}
 use Rattle.row_model.specs.declared.row.Table.{Table}
 use Rattle.row_model.specs.declared.schema.Schema.{Schema}
-use Rattle.row_model.specs.Change.{Elsewhere, elsewhere, rows_vector_bytes, rows_side_bytes, other_tables, table_named, with_table, free_number, add_table, with_new_table}
+use Rattle.row_model.specs.Change.{elsewhere, rows_vector_bytes, rows_side_bytes, other_tables, table_named, with_table, free_number, add_table, with_new_table}
 use Rattle.row_model.specs.Limits.{over_tables}
 use Rattle.row_model.specs.Schemas.{IsValidSchema}
 use Rattle.row_model.specs.Step.{with_tables}
@@ -76,7 +76,7 @@ bytes_split f name (t ∷ ts) named own found =
           let kept : other_tables name (t ∷ ts) ≡ t ∷ other_tables name ts = rw other refl in
           let part = ap (bytes_of f) kept in
           let split = bytes-cons f t (other_tables name ts) in
-          let rest = bytes_split f name ts named (and_parts _ _ own).1 later in
+          let rest = bytes_split f name ts named (and_parts (not (has_table t.name ts)) (have_own_names ts) own).1 later in
           omega (arith, whole, part, split, rest)
     ]
   where
@@ -104,7 +104,7 @@ bytes_changed f name table (t ∷ ts) named own found =
           let split = bytes-cons f t (with_table name table ts) in
           let part = ap (bytes_of f) kept in
           let part_split = bytes-cons f t (other_tables name ts) in
-          let rest = bytes_changed f name table ts named (and_parts _ _ own).1 later in
+          let rest = bytes_changed f name table ts named (and_parts (not (has_table t.name ts)) (have_own_names ts) own).1 later in
           omega (arith, whole, split, part, part_split, rest)
     ]
 
@@ -230,10 +230,11 @@ rise_added : (before : ℕ) (tables : List Named) (new : Named) → new.number �
 rise_added before [] new is few rise =
     and_from _ _ (lt-ltb before new.number (omega (arith, is))) (and_from _ _ (le-leb new.number 64 few) refl)
 rise_added before (t ∷ ts) new is few rise =
-    let low : nat_lt before t.number ≡ true = (and_parts _ _ rise).0 in
+    let low : nat_lt before t.number ≡ true = (and_parts (nat_lt before t.number) (nat_le t.number 64 && numbers_rise t.number ts) rise).0 in
     let above : before < t.number = ltb-true before t.number low in
-    let high : nat_le t.number 64 ≡ true = (and_parts _ _ (and_parts _ _ rise).1).0 in
-    let rest : numbers_rise t.number ts ≡ true = (and_parts _ _ (and_parts _ _ rise).1).1 in
+    let later_parts : (nat_le t.number 64 && numbers_rise t.number ts) ≡ true = (and_parts (nat_lt before t.number) (nat_le t.number 64 && numbers_rise t.number ts) rise).1 in
+    let high : nat_le t.number 64 ≡ true = (and_parts (nat_le t.number 64) (numbers_rise t.number ts) later_parts).0 in
+    let rest : numbers_rise t.number ts ≡ true = (and_parts (nat_le t.number 64) (numbers_rise t.number ts) later_parts).1 in
     elim (cases_Bool (t.number == before + 1)) [
       | inl next ↦
           let number : t.number ≡ before + 1 = eqb-true t.number (before + 1) next in
@@ -268,9 +269,10 @@ each_added P new (t ∷ ts) here each =
 none_added : (name : List ℕ) (new : Named) (tables : List Named) → bytes_eq new.name name ≡ false → has_table name tables ≡ false → has_table name (add_table new tables) ≡ false
 none_added name new [] here none = or_none _ _ here refl
 none_added name new (t ∷ ts) here none =
-    elim (nat_lt new.number t.number) as (λ b. has_table name (if b then new ∷ t ∷ ts else t ∷ add_table new ts) ≡ false)
-    [ true ↦ or_none _ _ here none
-    | false ↦ or_none _ _ (or_first (bytes_eq t.name name) (has_table name ts) none) (none_added name new ts here (or_second (bytes_eq t.name name) (has_table name ts) none)) ]
+    elim (nat_lt new.number t.number) as (λ b. has_table name (if b then new ∷ t ∷ ts else t ∷ add_table new ts) ≡ false) [
+      | true ↦ or_none _ _ here none
+      | false ↦ or_none _ _ (or_first (bytes_eq t.name name) (has_table name ts) none) (none_added name new ts here (or_second (bytes_eq t.name name) (has_table name ts) none))
+    ]
 
 own_names_added : (new : Named) (tables : List Named) → has_table new.name tables ≡ false → have_own_names tables ≡ true → have_own_names (add_table new tables) ≡ true
 own_names_added new [] none own = refl

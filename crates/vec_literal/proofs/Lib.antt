@@ -1,5 +1,6 @@
 pub mod BitsLaws
 pub mod Decimals
+pub mod Enclosed
 pub mod Following
 pub mod Int8Complete
 pub mod Int8Digits

@@ -1,0 +1,168 @@
+//! The plain engine: lists with copies, which does what the definitions say and keeps nothing beside the rows.
+ghost use Rattle.std.specs.Prelude.{◌≡◌, ◌+◌, ◌++◌, true, length, None, MatchBool, IfOk};
+ghost use Rattle.row_model.specs.declared.request.Request.TheVariants.{Execute, OpenSession};
+ghost use Rattle.row_model.specs.Alone.{all_idle, ExecutesAlone};
+ghost use Rattle.row_model.specs.Limits.{over_sessions, over_session_ids};
+ghost use Rattle.row_model.specs.Lists.{first};
+ghost use Rattle.row_model.specs.Machine.{first_state, new_session, no_tables, session_of};
+ghost use Rattle.row_model.specs.Served.{is_direct, is_served};
+ghost use Rattle.row_model.specs.Singular.{state_prop};
+ghost use Rattle.row_model.specs.Step.{StepsInMemory};
+ghost use Rattle.row_model.specs.Valid.{IsValidCatalog, IsValidState};
+ghost use Rattle.row_model.specs.WellFormed.{IsWellFormedRequest};
+
+use crate::insert::over;
+use crate::{Catalog, Phase, Reply, Request, Session, State, Statement};
+use std::alloc::Global;
+use std::marker::Model;
+use vec_base::{List, Memory, Refusal};
+
+impl Session {
+    /// A session that is in no transaction.
+    fn new(alloc: Global, id: u32) -> Session
+        ensures { result ≡ new_session id }
+    {
+        Session {
+            id,
+            phase: Phase::Idle,
+            by_savepoint: false,
+            marks: List::new(alloc),
+            cursors: List::new(alloc),
+            last_cursor: 0,
+        }
+    }
+}
+
+/// Whether a session with the id is open.
+fn is_open(sessions: &[Session], id: u32) -> bool
+    ensures { MatchBool result ((session_of id sessions.now ≡ None) → ⊥) (session_of id sessions.now ≡ None) }
+{
+    for session in sessions {
+        if session.id == id {
+            return true;
+        }
+    }
+    false
+}
+
+/// The refusal of one more session.
+fn one_session_more(sessions: &[Session], last_id: u32) -> Option<Refusal>
+    ensures { result ≡ first (over_sessions (length sessions.now + 1) ++ over_session_ids (last_id + 1)) }
+{
+    over(6, 256, (sessions.len() as u64).saturating_add(1)).or(over(
+        9,
+        4_294_967_295,
+        u64::from(last_id) + 1,
+    ))
+}
+
+impl State {
+    /// Opens a session with the last id plus one.
+    fn open(&mut self, alloc: Global) -> Reply
+        ensures { StepsInMemory self.old OpenSession result self.new }
+    {
+        if let Some(refusal) = one_session_more(self.sessions.as_slice(), self.last_id) {
+            return Reply::Refused(refusal);
+        }
+        let Some(id) = self.last_id.checked_add(1) else {
+            return Reply::Refused(Refusal::WantOfMemory);
+        };
+        match self.sessions.push(Session::new(alloc, id)) {
+            Ok(()) => {
+                self.last_id = id;
+                Reply::Session(id)
+            }
+            Err(Memory) => Reply::Refused(Refusal::WantOfMemory),
+        }
+    }
+
+    /// Executes a statement where no session is in a transaction.
+    fn execute(&mut self, alloc: Global, statement: Statement) -> Reply
+        requires idle { all_idle self.old.sessions ≡ true }
+        requires valid { IsValidCatalog self.old.catalog }
+        requires direct { is_direct statement ≡ true }
+        ensures { ExecutesAlone self.old statement result self.new }
+    {
+        match statement {
+            Statement::Create(name, schema) => self.create(alloc, name, schema),
+            Statement::Drop(name) => self.drop_table(&name),
+            Statement::Insert(insert) => self.insert(alloc, &insert),
+            Statement::Update(update) => self.update(alloc, &update),
+            Statement::Delete(delete) => self.delete(alloc, &delete),
+            Statement::Select(select) => self.select(alloc, &select),
+            _ => Reply::Refused(Refusal::WantOfMemory),
+        }
+    }
+
+    /// Executes a statement in the session of the id.
+    fn execute_in(&mut self, alloc: Global, id: u32, statement: Statement) -> Reply
+        requires idle { all_idle self.old.sessions ≡ true }
+        requires valid { IsValidCatalog self.old.catalog }
+        requires direct { is_direct statement ≡ true }
+        ensures { StepsInMemory self.old (Execute id statement) result self.new }
+    {
+        if !is_open(self.sessions.as_slice(), id) {
+            return Reply::Refused(Refusal::NoSession);
+        }
+        self.execute(alloc, statement)
+    }
+
+    /// Answers a request.
+    fn answer(&mut self, alloc: Global, request: Request) -> Reply
+        requires idle { all_idle self.old.sessions ≡ true }
+        requires valid { IsValidCatalog self.old.catalog }
+        requires served { is_served request ≡ true }
+        ensures { StepsInMemory self.old request result self.new }
+    {
+        match request {
+            Request::OpenSession => self.open(alloc),
+            Request::Execute(id, statement) => self.execute_in(alloc, id, statement),
+            _ => Reply::Refused(Refusal::WantOfMemory),
+        }
+    }
+}
+
+/// An engine over lists with copies. It has no store. Contracts see it as the state of the machine.
+#[derive(Drop)]
+pub struct PlainEngine {
+    alloc: Global,
+    state: State,
+    ghost idle: { all_idle state.sessions ≡ true },
+    ghost valid: { IsValidState state } by { state_prop state },
+}
+
+impl Model for PlainEngine {
+    ghost use Rattle.row_model.specs.declared.state.State.{State as StateOf};
+
+    ghost Value = { StateOf };
+
+    ghost view = { λ engine. engine.state };
+}
+
+impl PlainEngine {
+    /// An engine without tables and sessions. It takes no memory yet.
+    pub fn new(alloc: Global) -> Result<PlainEngine, Memory>
+        ensures { IfOk result (λ engine. engine ≡ first_state no_tables) }
+    {
+        let catalog = Catalog {
+            tables: List::new(alloc),
+        };
+        let state = State {
+            catalog,
+            commits: 0,
+            last_id: 0,
+            sessions: List::new(alloc),
+        };
+        Ok(PlainEngine { alloc, state })
+    }
+
+    /// Answers a request: OpenSession, or Execute of a CREATE, DROP, INSERT, UPDATE, DELETE or SELECT, whose statement is
+    /// well formed. A refusal leaves the state.
+    pub fn answer(&mut self, request: Request) -> Reply
+        requires served { is_served request ≡ true }
+        requires well_formed { IsWellFormedRequest request }
+        ensures { StepsInMemory self.old request result self.new }
+    {
+        self.state.answer(self.alloc, request)
+    }
+}
