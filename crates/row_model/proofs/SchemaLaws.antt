@@ -16,6 +16,7 @@ use Rattle.row_model.specs.declared.schema.Schema.{Schema}
 use Rattle.row_model.specs.Columns.{declared_place, place_of, column_number}
 use Rattle.row_model.specs.Schemas.{is_key, is_vector, is_partition, is_metadata, is_auxiliary, count_of, has_some, has_twins, takes_hidden_name, is_misfit_int8, is_misfit_bits, is_misfit_chunk, schema_fault, IsValidSchema}
 use Rattle.row_model.specs.Valid.{is_valid_value, are_valid_values}
+use Rattle.row_model.proofs.BoolLaws.{or_first, or_second}
 
 -- ---- the rules, one by one
 
@@ -134,14 +135,6 @@ place_declared columns name number kind h =
                 [ true ↦ λ e. absurd cc | false ↦ λ e. e ] e
           ] e
     ] h
-
-or_first : (a b : Bool) → (a || b) ≡ false → a ≡ false
-or_first true b h = h
-or_first false b h = refl
-
-or_second : (a b : Bool) → (a || b) ≡ false → b ≡ false
-or_second true b h = absurd cc
-or_second false b h = h
 
 -- what no column is, that of the place is not
 pub declared_sort : (sort : Kind → Bool) (name : List ℕ) (n : ℕ) (columns : List Column) (number : ℕ) (kind : Kind) →

@@ -1,11 +1,8 @@
 use Rattle.std.proofs.Common.{◌≡◌, Bool, true, false, not, length, arith, sym, refl, ◌∙◌}
 use Rattle.row_model.specs.Answer.{is_before}
+use Rattle.row_model.proofs.BoolLaws.{not_true}
 use Rattle.row_model.proofs.NearLaws.{near_order, left_out}
 use Rattle.row_model.proofs.nearest.is_left_out.Goals as goal
-
-not_true : (b : Bool) → not b ≡ true → b ≡ false
-not_true true h = cc
-not_true false h = refl
 
 pub returns-in-Some : goal.returns-in-Some
 returns-in-Some c later =
