@@ -60,7 +60,7 @@ fn count_wanted(columns: &[Column], terms: &[Constraint], limit: &Option<Value>)
     }
 }
 
-/// The first of the rows that meet the terms, at most so many.
+/// The first of the rows that meet the terms, at most so many. Behind the last of them no row is looked at.
 fn scanned<'a>(
     alloc: Global,
     columns: &[Column],
@@ -73,10 +73,11 @@ fn scanned<'a>(
 {
     let mut nears = Vec::new(alloc);
     for row in rows {
-        if nears.len() < most {
-            if meets_all(columns, terms, row) {
-                nears.push(Near { distance: 0, row })?;
-            }
+        if most <= nears.len() {
+            return Ok(nears);
+        }
+        if meets_all(columns, terms, row) {
+            nears.push(Near { distance: 0, row })?;
         }
     }
     Ok(nears)

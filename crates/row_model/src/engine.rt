@@ -49,8 +49,11 @@ fn is_open(sessions: &[Session], id: u32) -> bool
 fn one_session_more(sessions: &[Session], last_id: u32) -> Option<Refusal>
     ensures { result ≡ first (over_sessions (length sessions.now + 1) ++ over_session_ids (last_id + 1)) }
 {
-    over(6, 256, (sessions.len() as u64).saturating_add(1))
-        .or(over(9, 4_294_967_295, u64::from(last_id) + 1))
+    over(6, 256, (sessions.len() as u64).saturating_add(1)).or(over(
+        9,
+        4_294_967_295,
+        u64::from(last_id) + 1,
+    ))
 }
 
 impl State {

@@ -13,13 +13,13 @@ ghost use Rattle.row_model.specs.Step.{commits_spent, inserted_catalog, kept_cat
 ghost use Rattle.row_model.specs.Valid.{IsValidCatalog, IsValidTable};
 
 use crate::answer::answer;
+use crate::catalog::{find_table, free_number, number_place, table_at};
 use crate::check::{check_delete, check_insert, check_select, check_update};
 use crate::forms::is_nearest;
 use crate::grow::{Grown, grow};
+use crate::insert::over;
 use crate::totals::Totals;
 use crate::update::{kept, met_count, update_refusal, updated};
-use crate::catalog::{find_table, free_number, number_place, table_at};
-use crate::insert::over;
 use crate::{
     Column, Delete, Insert, Named, Place, Reply, Row, Schema, Select, State, Table, Update,
 };
@@ -46,16 +46,31 @@ fn places_of(alloc: Global, columns: &[Column], names: &[Txt]) -> Result<Vec<Pla
 }
 
 /// A copy of the table with the rows of an INSERT, or what refuses one of them.
-fn insert_all(alloc: Global, tables: &[Named], table: &Table, insert: &Insert) -> Result<Result<Grown, Refusal>, Memory>
+fn insert_all(
+    alloc: Global,
+    tables: &[Named],
+    table: &Table,
+    insert: &Insert,
+) -> Result<Result<Grown, Refusal>, Memory>
     requires valid { IsValidTable table.now }
     ensures refused { IfOk result (λ grew. IfErr grew (λ refusal. inserted_catalog insert.now (with_tables tables.now) table.now ≡ err refusal)) }
     ensures grown { IfOk result (λ grew. IfOk grew (λ g. inserted_catalog insert.now (with_tables tables.now) table.now
         ≡ ok (Inserted (length insert.now.rows) g.last, with_tables (with_table insert.now.table g.table tables.now)))) }
 {
-    let places = places_of(alloc, table.schema.columns.as_slice(), insert.columns.as_slice())?;
+    let places = places_of(
+        alloc,
+        table.schema.columns.as_slice(),
+        insert.columns.as_slice(),
+    )?;
     let totals = Totals::beside(tables, &insert.table, table.rows.as_slice());
     let copy = table.copy(alloc)?;
-    grow(alloc, places.as_slice(), copy, totals, insert.rows.as_slice())
+    grow(
+        alloc,
+        places.as_slice(),
+        copy,
+        totals,
+        insert.rows.as_slice(),
+    )
 }
 
 /// The table with other rows.
@@ -77,7 +92,12 @@ struct Edited {
 }
 
 /// A copy of the table with the new values of an UPDATE, or what refuses it.
-fn update_all(alloc: Global, tables: &[Named], table: &Table, update: &Update) -> Result<Result<Edited, Refusal>, Memory>
+fn update_all(
+    alloc: Global,
+    tables: &[Named],
+    table: &Table,
+    update: &Update,
+) -> Result<Result<Edited, Refusal>, Memory>
     requires valid { IsValidTable table.now }
     ensures refused { IfOk result (λ edited. IfErr edited (λ refusal. updated_catalog update.now (with_tables tables.now) table.now ≡ err refusal)) }
     ensures edited { IfOk result (λ edited. IfOk edited (λ e. updated_catalog update.now (with_tables tables.now) table.now
@@ -128,7 +148,11 @@ impl State {
     fn spent_commits(&self) -> Option<Refusal>
         ensures { result ≡ first (commits_spent self.now) }
     {
-        over(11, 9_223_372_036_854_775_807, self.commits.saturating_add(1))
+        over(
+            11,
+            9_223_372_036_854_775_807,
+            self.commits.saturating_add(1),
+        )
     }
 
     /// Makes an empty table.
@@ -153,7 +177,14 @@ impl State {
             rows: List::new(alloc),
             top: 0,
         };
-        match self.catalog.tables.insert(at, Named { number, name, table }) {
+        match self.catalog.tables.insert(
+            at,
+            Named {
+                number,
+                name,
+                table,
+            },
+        ) {
             Ok(()) => {
                 self.commits += 1;
                 Reply::Done
@@ -193,7 +224,14 @@ impl State {
             return Reply::Refused(Refusal::WantOfMemory);
         };
         let number = named.number;
-        self.catalog.tables.set(at, Named { number, name, table });
+        self.catalog.tables.set(
+            at,
+            Named {
+                number,
+                name,
+                table,
+            },
+        );
         self.commits += 1;
         reply
     }

@@ -56,13 +56,7 @@ fn assigned(top: &i64, rowid: &Option<i64>) -> i64
 {
     match rowid {
         Some(rowid) => *rowid,
-        None => {
-            if *top < i64::MAX {
-                *top + 1
-            } else {
-                *top
-            }
-        }
+        None => { if *top < i64::MAX { *top + 1 } else { *top } }
     }
 }
 
@@ -87,16 +81,34 @@ fn room_refusal(totals: Totals, count: usize, row: &Row) -> Option<Refusal>
 
 /// The row that a group of values makes in the table; the rowid is the one that the group gives, if it gives one.
 #[tactic(auto, using(crate::proofs::TopLaws::is_new_row))]
-fn new_row(alloc: Global, table: &Table, places: &[Place], rowid: &Option<i64>, given: &[Value]) -> Result<Row, Memory>
+fn new_row(
+    alloc: Global,
+    table: &Table,
+    places: &[Place],
+    rowid: &Option<i64>,
+    given: &[Value],
+) -> Result<Row, Memory>
     requires { rowid.now ≡ given_rowid places.now given.now }
     ensures { IfOk result (λ row. row ≡ new_row table.now places.now given.now) }
 {
     let number = assigned(&table.top, rowid);
-    row_of(alloc, table.schema.columns.as_slice(), places, &number, given)
+    row_of(
+        alloc,
+        table.schema.columns.as_slice(),
+        places,
+        &number,
+        given,
+    )
 }
 
 /// The refusal of a row that a group of values makes, but for that of a given rowid.
-fn row_refusal(totals: Totals, table: &Table, rowid: &Option<i64>, row: &Row, given: &[Value]) -> Option<Refusal>
+fn row_refusal(
+    totals: Totals,
+    table: &Table,
+    rowid: &Option<i64>,
+    row: &Row,
+    given: &[Value],
+) -> Option<Refusal>
     ensures first { (other : Elsewhere) → totals ≡ total_beside other table.now.rows → taken_rowid table.now.rows rowid.now ≡ [] →
         result ≡ first (row_refusals other table.now rowid.now row.now given.now) }
     ensures left { result ≡ None → spent table.now.top rowid.now ≡ [] }
@@ -111,7 +123,13 @@ fn row_refusal(totals: Totals, table: &Table, rowid: &Option<i64>, row: &Row, gi
 
 /// Adds the row that a group of values makes, or answers what refuses it. Where it is refused, or memory is wanted,
 /// nothing changes.
-fn add_group(alloc: Global, places: &[Place], table: &mut Table, totals: &mut Totals, given: &[Value]) -> Result<Option<Refusal>, Memory>
+fn add_group(
+    alloc: Global,
+    places: &[Place],
+    table: &mut Table,
+    totals: &mut Totals,
+    given: &[Value],
+) -> Result<Option<Refusal>, Memory>
     requires ordered { IsOrdered table.old }
     ensures refusal { (other : Elsewhere) → totals.old ≡ total_beside other table.old.rows → IfOk result (λ refusal. refusal ≡ first (group_refusals other table.old places.now given.now)) }
     ensures added { IfOk result (λ refusal. refusal ≡ None → table.new ≡ with_new_row table.old (new_row table.old places.now given.now)) }
@@ -154,7 +172,13 @@ pub(crate) struct Grown {
 
 /// Adds the rows that all groups of values make, one after another, or answers the first refusal. The totals are those of
 /// the table's rows and of other tables.
-pub(crate) fn grow(alloc: Global, places: &[Place], mut table: Table, mut totals: Totals, rows: &[List<Value>]) -> Result<Result<Grown, Refusal>, Memory>
+pub(crate) fn grow(
+    alloc: Global,
+    places: &[Place],
+    mut table: Table,
+    mut totals: Totals,
+    rows: &[List<Value>],
+) -> Result<Result<Grown, Refusal>, Memory>
     requires ordered { IsOrdered table }
     ensures refused { (other : Elsewhere) → totals ≡ total_beside other table.rows → IfOk result (λ grew. IfErr grew (λ refusal. grown other places.now table rows.now ≡ err refusal)) }
     ensures grown { (other : Elsewhere) → totals ≡ total_beside other table.rows → IfOk result (λ grew. IfOk grew (λ g. grown other places.now table rows.now ≡ ok g.table)) }
@@ -163,7 +187,13 @@ pub(crate) fn grow(alloc: Global, places: &[Place], mut table: Table, mut totals
     let mut last = 0;
     for given in rows {
         let rowid = next_rowid(&table, places, given.as_slice());
-        if let Some(refusal) = add_group(alloc, places, &mut table, &mut totals, given.as_slice())? {
+        if let Some(refusal) = add_group(
+            alloc,
+            places,
+            &mut table,
+            &mut totals,
+            given.as_slice(),
+        )? {
             return Ok(Err(refusal));
         }
         last = rowid;
