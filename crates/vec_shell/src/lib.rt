@@ -16,6 +16,8 @@ pub use top::run;
 #[cfg(test)]
 mod rows_tests;
 #[cfg(test)]
+mod scripts;
+#[cfg(test)]
 mod tests;
 #[cfg(test)]
 mod transcripts;

@@ -1,12 +1,17 @@
 //! Scripts with the replies that they get.
-use crate::tests::{ran, whole};
-use crate::transcripts::{COLUMNS, FORMS, ROWS, SENTENCES};
+use crate::tests::{Setting, ran, whole};
+use crate::scripts::ROWS;
+use crate::transcripts::{COLUMNS, FORMS, SENTENCES};
 use std::alloc::Global;
 use std::test::Fail;
 
 /// The status and the output of a script.
 fn shelled(alloc: Global, script: &str) -> Result<(u8, Vec<u8>), Fail> {
-    ran(alloc, "shell", script.as_bytes(), &whole(4096))
+    let setting = Setting {
+        room: 65_536,
+        ..whole(4096)
+    };
+    ran(alloc, "shell", script.as_bytes(), &setting)
 }
 
 /// The statements of transcripts, each behind `> ` there, and their other lines, which are the replies.
@@ -98,7 +103,7 @@ fn an_answer_has_at_most_4096_rows(rt: HostRuntime) -> Result<(), Fail> {
         "CREATE VIRTUAL TABLE v USING vec0(a int8[1]); {rows}; SELECT rowid FROM v; SELECT rowid FROM v LIMIT 4097;\
         SELECT rowid FROM v WHERE rowid > 4090 LIMIT 5000; SELECT rowid FROM v LIMIT 4096"
     )?;
-    let (status, out) = ran(alloc, "shell", input.as_str().as_bytes(), &whole(65_536))?;
+    let (status, out) = shelled(alloc, input.as_str())?;
     let begin = "ok\nok inserted 4097 last 4097\nerror 23 too many rows 4097\nerror 23 too many rows 4097\n\
         4091\n4092\n4093\n4094\n4095\n4096\n4097\nrows 7\n1\n2\n3\n";
     assert_eq!(rt; status, 2);

@@ -22,10 +22,10 @@ const NEAREST: &str = "SELECT rowid, distance FROM v WHERE a MATCH vec_int8('[0,
 /// How a source and a sink in memory behave: bytes in a read, the read and the write that fail, and the sink's room.
 #[derive(Clone, Copy)]
 pub(crate) struct Setting {
-    piece: usize,
-    failing_read: u64,
-    failing_write: u64,
-    room: usize,
+    pub(crate) piece: usize,
+    pub(crate) failing_read: u64,
+    pub(crate) failing_write: u64,
+    pub(crate) room: usize,
 }
 
 /// No call fails.
