@@ -1,2 +1,5 @@
 pub mod Lists
+pub mod Making
+pub mod Noting
+pub mod Spelled
 pub mod StatementLines
