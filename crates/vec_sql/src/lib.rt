@@ -15,3 +15,4 @@ mod value;
 mod vector;
 
 pub use given::{Given, GivenAssign, GivenSelect, GivenStatement, GivenTerm, GivenTest, Group};
+pub use read::read_statement;
