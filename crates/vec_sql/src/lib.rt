@@ -2,10 +2,17 @@
 #![tactic(auto)]
 
 mod body;
+mod flaw;
 mod given;
 mod list;
+mod made;
+mod meaning;
+mod parameters;
+mod read;
 mod select;
 mod term;
 mod value;
+mod vector;
 
 pub use given::{Given, GivenAssign, GivenSelect, GivenStatement, GivenTerm, GivenTest, Group};
+pub use read::read_statement;

@@ -6,7 +6,7 @@ ghost use Rattle.vec_base.specs.Words.{is_name};
 ghost use Rattle.row_model.specs.WellFormed.{is_filled};
 ghost use Rattle.vec_sql.specs.Statements.{assignment, group};
 ghost use Rattle.vec_sql.specs.Factored.{assignments_list, groups_list, more_assignments, more_groups, more_names, more_values, names_list, values_list};
-ghost use Rattle.vec_sql.specs.Formed.{are_names, is_formed_set};
+ghost use Rattle.vec_sql.specs.Formed.{are_formed_values, are_names, is_formed_group, is_formed_set, is_formed_value};
 
 use crate::given::{Given, GivenAssign, Group};
 use crate::value::value;
@@ -42,7 +42,8 @@ pub(crate) fn names(alloc: Global, reader: &mut Reader<'_>) -> Result<List<Txt>,
 /// Reads a comma and a value.
 #[tactic(auto, unfolding(crate::specs::Factored::more_values))]
 fn more_values(reader: &mut Reader<'_>) -> Result<Given, Stop>
-    ensures { Gives (λ x. x) result (read more_values (rest_of reader.old)) (rest_of reader.new) }
+    ensures reads { Gives (λ x. x) result (read more_values (rest_of reader.old)) (rest_of reader.new) }
+    ensures formed { IfOk result (λ given. is_formed_value given ≡ true) }
 {
     reader.mark(b",")?;
     value(reader)
@@ -51,7 +52,7 @@ fn more_values(reader: &mut Reader<'_>) -> Result<Given, Stop>
 /// Reads values with commas between them.
 pub(crate) fn values(alloc: Global, reader: &mut Reader<'_>) -> Result<List<Given>, Stop>
     ensures reads { Gives (λ x. x) result (read values_list (rest_of reader.old)) (rest_of reader.new) }
-    ensures formed { IfOk result (λ values. is_filled values ≡ true) }
+    ensures formed { IfOk result (λ values. are_formed_values values ≡ true) }
 {
     let first = value(reader)?;
     let mut values = List::new(alloc);
@@ -66,7 +67,8 @@ pub(crate) fn values(alloc: Global, reader: &mut Reader<'_>) -> Result<List<Give
 /// Reads the values of a row, with parentheses around them.
 #[tactic(auto, unfolding(crate::specs::Statements::group, crate::specs::Factored::values_list))]
 fn group(alloc: Global, reader: &mut Reader<'_>) -> Result<Group, Stop>
-    ensures { Gives (λ x. x) result (read group (rest_of reader.old)) (rest_of reader.new) }
+    ensures reads { Gives (λ x. x) result (read group (rest_of reader.old)) (rest_of reader.new) }
+    ensures formed { IfOk result (λ group. is_formed_group group ≡ true) }
 {
     reader.mark(b"(")?;
     let values = values(alloc, reader)?;
@@ -77,7 +79,8 @@ fn group(alloc: Global, reader: &mut Reader<'_>) -> Result<Group, Stop>
 /// Reads a comma and the values of a row.
 #[tactic(auto, unfolding(crate::specs::Factored::more_groups))]
 fn more_groups(alloc: Global, reader: &mut Reader<'_>) -> Result<Group, Stop>
-    ensures { Gives (λ x. x) result (read more_groups (rest_of reader.old)) (rest_of reader.new) }
+    ensures reads { Gives (λ x. x) result (read more_groups (rest_of reader.old)) (rest_of reader.new) }
+    ensures formed { IfOk result (λ group. is_formed_group group ≡ true) }
 {
     reader.mark(b",")?;
     group(alloc, reader)
@@ -86,7 +89,7 @@ fn more_groups(alloc: Global, reader: &mut Reader<'_>) -> Result<Group, Stop>
 /// Reads rows with commas between them.
 pub(crate) fn groups(alloc: Global, reader: &mut Reader<'_>) -> Result<List<Group>, Stop>
     ensures reads { Gives (λ x. x) result (read groups_list (rest_of reader.old)) (rest_of reader.new) }
-    ensures formed { IfOk result (λ groups. is_filled groups ≡ true) }
+    ensures formed { IfOk result (λ groups. (list_all is_formed_group groups && is_filled groups) ≡ true) }
 {
     let first = group(alloc, reader)?;
     let mut groups = List::new(alloc);

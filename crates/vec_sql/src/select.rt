@@ -3,7 +3,7 @@ ghost use Rattle.grammar.specs.Gives.{rest_of, Gives};
 ghost use Rattle.grammar.specs.Reading.{read};
 ghost use Rattle.vec_sql.specs.Statements.{by_distance, by_rowid, items_part, limit, order};
 ghost use Rattle.vec_sql.specs.Factored.{factored_select, maybe_limit, maybe_order};
-ghost use Rattle.vec_sql.specs.Formed.{are_formed_items, is_formed_select};
+ghost use Rattle.vec_sql.specs.Formed.{are_formed_items, is_formed_limit, is_formed_select, is_formed_value};
 
 use crate::given::{Given, GivenSelect};
 use crate::list::names;
@@ -85,7 +85,8 @@ fn maybe_order(reader: &mut Reader<'_>) -> Result<Order, Stop>
 /// Reads LIMIT and its value.
 #[tactic(auto, unfolding(crate::specs::Statements::limit))]
 fn limit(reader: &mut Reader<'_>) -> Result<Given, Stop>
-    ensures { Gives (λ x. x) result (read limit (rest_of reader.old)) (rest_of reader.new) }
+    ensures reads { Gives (λ x. x) result (read limit (rest_of reader.old)) (rest_of reader.new) }
+    ensures formed { IfOk result (λ given. is_formed_value given ≡ true) }
 {
     reader.word(b"LIMIT")?;
     value(reader)
@@ -94,7 +95,8 @@ fn limit(reader: &mut Reader<'_>) -> Result<Given, Stop>
 /// Reads LIMIT and its value, where it is at hand.
 #[tactic(auto, unfolding(crate::specs::Factored::maybe_limit, crate::specs::Statements::limit))]
 fn maybe_limit(reader: &mut Reader<'_>) -> Result<Option<Given>, Stop>
-    ensures { Gives (λ x. x) result (read maybe_limit (rest_of reader.old)) (rest_of reader.new) }
+    ensures reads { Gives (λ x. x) result (read maybe_limit (rest_of reader.old)) (rest_of reader.new) }
+    ensures formed { IfOk result (λ given. is_formed_limit given ≡ true) }
 {
     if reader.at_word(b"LIMIT") {
         let given = limit(reader)?;

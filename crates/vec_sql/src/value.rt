@@ -1,13 +1,13 @@
 ghost use Rattle.std.specs.Prelude.{◌≡◌, Some, None, if◌then◌else◌, IfOk, true};
 ghost use Rattle.grammar.specs.Gives.{rest_of, Gives};
 ghost use Rattle.grammar.specs.Reading.{read};
-ghost use Rattle.vec_sql.specs.Statements.{group, may_say, op, value, vec_bit, vec_int8};
-ghost use Rattle.vec_sql.specs.Factored.{bits_operand, int8_operand, operand, order_op, word_value, values_list, more_values};
+ghost use Rattle.vec_sql.specs.Formed.{is_formed_value};
+ghost use Rattle.vec_sql.specs.Statements.{may_say, op, value, vec_bit, vec_int8};
+ghost use Rattle.vec_sql.specs.Factored.{bits_operand, int8_operand, operand, order_op, word_value};
 
-use crate::given::{Given, Group};
+use crate::given::Given;
 use grammar::{Reader, Stop};
-use std::alloc::Global;
-use vec_base::{List, Op, Value};
+use vec_base::{Op, Value};
 
 /// Passes the word where it is at hand, and answers whether it is.
 pub(crate) fn may_say(reader: &mut Reader<'_>, word: &[u8]) -> Result<bool, Stop>
@@ -24,7 +24,8 @@ pub(crate) fn may_say(reader: &mut Reader<'_>, word: &[u8]) -> Result<bool, Stop
 /// Reads what VEC_INT8 is given.
 #[tactic(auto, unfolding(crate::specs::Factored::int8_operand))]
 fn int8_operand(reader: &mut Reader<'_>) -> Result<Given, Stop>
-    ensures { Gives (λ x. x) result (read int8_operand (rest_of reader.old)) (rest_of reader.new) }
+    ensures reads { Gives (λ x. x) result (read int8_operand (rest_of reader.old)) (rest_of reader.new) }
+    ensures formed { IfOk result (λ given. is_formed_value given ≡ true) }
 {
     if reader.at_text() {
         let (place, text) = reader.placed_text()?;
@@ -41,7 +42,8 @@ fn int8_operand(reader: &mut Reader<'_>) -> Result<Given, Stop>
 /// Reads an int8 vector.
 #[tactic(auto, unfolding(crate::specs::Statements::vec_int8, crate::specs::Factored::int8_operand))]
 fn vec_int8(reader: &mut Reader<'_>) -> Result<Given, Stop>
-    ensures { Gives (λ x. x) result (read vec_int8 (rest_of reader.old)) (rest_of reader.new) }
+    ensures reads { Gives (λ x. x) result (read vec_int8 (rest_of reader.old)) (rest_of reader.new) }
+    ensures formed { IfOk result (λ given. is_formed_value given ≡ true) }
 {
     reader.word(b"VEC_INT8")?;
     reader.mark(b"(")?;
@@ -53,7 +55,8 @@ fn vec_int8(reader: &mut Reader<'_>) -> Result<Given, Stop>
 /// Reads what VEC_BIT is given.
 #[tactic(auto, unfolding(crate::specs::Factored::bits_operand))]
 fn bits_operand(reader: &mut Reader<'_>) -> Result<Given, Stop>
-    ensures { Gives (λ x. x) result (read bits_operand (rest_of reader.old)) (rest_of reader.new) }
+    ensures reads { Gives (λ x. x) result (read bits_operand (rest_of reader.old)) (rest_of reader.new) }
+    ensures formed { IfOk result (λ given. is_formed_value given ≡ true) }
 {
     if reader.at_blob() {
         let bytes = reader.blob()?;
@@ -67,7 +70,8 @@ fn bits_operand(reader: &mut Reader<'_>) -> Result<Given, Stop>
 /// Reads a bit vector.
 #[tactic(auto, unfolding(crate::specs::Statements::vec_bit, crate::specs::Factored::bits_operand))]
 fn vec_bit(reader: &mut Reader<'_>) -> Result<Given, Stop>
-    ensures { Gives (λ x. x) result (read vec_bit (rest_of reader.old)) (rest_of reader.new) }
+    ensures reads { Gives (λ x. x) result (read vec_bit (rest_of reader.old)) (rest_of reader.new) }
+    ensures formed { IfOk result (λ given. is_formed_value given ≡ true) }
 {
     reader.word(b"VEC_BIT")?;
     reader.mark(b"(")?;
@@ -79,7 +83,8 @@ fn vec_bit(reader: &mut Reader<'_>) -> Result<Given, Stop>
 /// Reads a parameter or a vector.
 #[tactic(auto, unfolding(crate::specs::Factored::operand, crate::specs::Statements::vec_int8))]
 fn operand(reader: &mut Reader<'_>) -> Result<Given, Stop>
-    ensures { Gives (λ x. x) result (read operand (rest_of reader.old)) (rest_of reader.new) }
+    ensures reads { Gives (λ x. x) result (read operand (rest_of reader.old)) (rest_of reader.new) }
+    ensures formed { IfOk result (λ given. is_formed_value given ≡ true) }
 {
     if reader.at_parameter() {
         let number = reader.parameter()?;
@@ -94,7 +99,8 @@ fn operand(reader: &mut Reader<'_>) -> Result<Given, Stop>
 /// Reads a value that is no literal.
 #[tactic(auto, unfolding(crate::specs::Factored::word_value))]
 fn word_value(reader: &mut Reader<'_>) -> Result<Given, Stop>
-    ensures { Gives (λ x. x) result (read word_value (rest_of reader.old)) (rest_of reader.new) }
+    ensures reads { Gives (λ x. x) result (read word_value (rest_of reader.old)) (rest_of reader.new) }
+    ensures formed { IfOk result (λ given. is_formed_value given ≡ true) }
 {
     if reader.at_word(b"NULL") {
         reader.word(b"NULL")?;
@@ -113,7 +119,8 @@ fn word_value(reader: &mut Reader<'_>) -> Result<Given, Stop>
 /// Reads a value.
 #[tactic(auto, unfolding(crate::specs::Statements::value, crate::specs::Factored::word_value, crate::specs::Factored::operand))]
 pub(crate) fn value(reader: &mut Reader<'_>) -> Result<Given, Stop>
-    ensures { Gives (λ x. x) result (read value (rest_of reader.old)) (rest_of reader.new) }
+    ensures reads { Gives (λ x. x) result (read value (rest_of reader.old)) (rest_of reader.new) }
+    ensures formed { IfOk result (λ given. is_formed_value given ≡ true) }
 {
     if reader.at_signed_number() {
         let number = reader.signed_number()?;
