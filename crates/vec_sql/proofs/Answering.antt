@@ -1,11 +1,12 @@
 -- From what is made of a statement to what is answered.
-use Rattle.std.proofs.Common.{◌≡◌, ℕ, ◌≤◌, ◌<◌, inl, inr, List, [], ◌∷◌, ◌++◌, length, Option, Some, None, Result, Ok, Err, refl, sym, ◌∙◌, ap, subst, arith}
+use Rattle.std.proofs.Common.{◌≡◌, true, ℕ, ◌≤◌, ◌<◌, inl, inr, List, [], ◌∷◌, ◌++◌, length, Option, Some, None, Result, Ok, Err, refl, sym, ◌∙◌, ap, subst, arith}
 use Rattle.std.specs.Prelude.{◌⊎◌, IfOk, IfErr, MatchOption}
 use Rattle.std.specs.List.{AllByRecursion}
 use Rattle.vec_base.specs.declared.refusal.Refusal.{Refusal}
 use Rattle.vec_base.specs.declared.refusal.Refusal.TheVariants as refusals
 use Rattle.vec_base.specs.declared.value.Value.{Value}
 use Rattle.row_model.specs.declared.statement.Statement.{Statement}
+use Rattle.grammar.specs.Parameters.{numbered_tokens}
 use Rattle.grammar.specs.Gives.{refusal_by, refusal_of}
 use Rattle.vec_literal.specs.Tokens.{Token}
 use Rattle.vec0_columns.specs.Columns.{text_limit}
@@ -16,7 +17,13 @@ use Rattle.vec_sql.specs.Givens.{Concern, concerns, Use, uses}
 use Rattle.vec_sql.specs.Made.{AreFine, AreTaken, FailsGrammar, IsStatementMade, ordered_concerns, ordered_uses, answered}
 use Rattle.vec_sql.specs.Reads.{AllFine, FailsBy, IsFine, IsFirstBad, IsGiven, IsParameterFault, IsRefusal, IsTaken, Means, ParametersFit, SpellsStatement, count_fault, rule_fault, greatest}
 use Rattle.vec_sql.proofs.Meant.{concerns_ordered, uses_ordered}
+use Rattle.grammar.proofs.Laws.{one_value}
+use Rattle.vec_sql.specs.Factored.{factored_statement}
+use Rattle.row_model.specs.WellFormed.{IsWellFormed}
+use Rattle.vec_sql.specs.Formed.{is_formed}
 use Rattle.vec_sql.proofs.OneMeaning.{one_meaning}
+use Rattle.vec_sql.proofs.StatementLines.{statement_same, statement_decides}
+use Rattle.vec_sql.proofs.WellFormed.{means_whole}
 
 -- ---- what excludes what
 
@@ -135,3 +142,22 @@ ok_given given other (inr h) = absurd cc
 pub err_given : {A : Type 0} (e : Refusal) (given : GivenStatement) (r : Result A Refusal) → r ≡ Err e → (let q : Result GivenStatement Refusal = Err e in (q ≡ Ok given) ⊎ (q ≡ Err refusals.WantOfMemory)) → r ≡ Err refusals.WantOfMemory
 err_given e given r k (inl h) = absurd cc
 err_given {A} e given r k (inr h) = let same : e ≡ refusals.WantOfMemory = cc in k ∙ ap (λ (z : Refusal). (let q : Result A Refusal = Err z in q)) same
+
+-- no text spells two statements with the same parameters
+pub one_statement : (text : List ℕ) (params : List Value) (s t : Statement) → SpellsStatement text params s → SpellsStatement text params t → s ≡ t
+one_statement text params s t a b =
+    let same : a.given ≡ b.given = one_value factored_statement statement_decides (numbered_tokens text) a.given b.given
+    (statement_same.back.spelled (numbered_tokens text) a.given a.is_given.spelled) (statement_same.back.spelled (numbered_tokens text) b.given b.is_given.spelled) in
+    one_meaning params b.given s t (subst (λ (g : GivenStatement). Means params g s) same a.means) b.means
+
+-- a statement that is answered is well formed
+pub ends_whole : (params : List Value) (given : GivenStatement) (made : Result Statement Flaw) (fault count : Option ℕ) →
+    is_formed given ≡ true → IsStatementMade params given made → Fault params given fault → count ≡ count_fault given → IfOk (answered made fault count) (λ s. IsWellFormed s)
+ends_whole params given (Err flaws.Memory) fault count g m f e = tt
+ends_whole params given (Err (flaws.Place place)) fault count g m f e = tt
+ends_whole params given (Err (flaws.Rule rule)) (Some index) count g m f e = tt
+ends_whole params given (Err (flaws.Rule rule)) None (Some n) g m f e = tt
+ends_whole params given (Err (flaws.Rule rule)) None None g m f e = tt
+ends_whole params given (Ok s) (Some index) count g m f e = tt
+ends_whole params given (Ok s) None (Some n) g m f e = tt
+ends_whole params given (Ok s) None None g m f e = means_whole params given s g (fine_all given m.0) (sym e) m.1 (m.2 (taken_all params given f))

@@ -6,3 +6,4 @@ pub mod Noting
 pub mod OneMeaning
 pub mod Spelled
 pub mod StatementLines
+pub mod WellFormed

@@ -16,3 +16,6 @@ mod vector;
 
 pub use given::{Given, GivenAssign, GivenSelect, GivenStatement, GivenTerm, GivenTest, Group};
 pub use read::read_statement;
+
+#[cfg(test)]
+mod tests;

@@ -4,6 +4,7 @@ ghost use Rattle.grammar.specs.Grammar.{Spells};
 ghost use Rattle.grammar.specs.Parameters.{numbered_tokens};
 ghost use Rattle.vec_sql.specs.declared.given.GivenStatement.{GivenStatement as Spelled};
 ghost use Rattle.vec_sql.specs.Formed.{is_formed};
+ghost use Rattle.row_model.specs.WellFormed.{IsWellFormed};
 ghost use Rattle.row_model.specs.declared.statement.Statement.{Statement as Meant};
 ghost use Rattle.vec_sql.specs.Givens.{item_count, items_in, terms_in};
 ghost use Rattle.vec_sql.specs.Made.{FailsGrammar, answered, later, unless_later};
@@ -56,6 +57,7 @@ pub fn read_statement(
 ) -> Result<Statement, Refusal>
     ensures spelled { (statement : Meant) → SpellsStatement text.now params.now statement → (result ≡ Ok statement) ⊎ (result ≡ Err WantOfMemory) }
     ensures statement { IfOk result (λ statement. SpellsStatement text.now params.now statement) }
+    ensures well_formed { IfOk result (λ statement. IsWellFormed statement) }
     ensures refusal { IfErr result (λ e. (e ≡ WantOfMemory) ⊎ IsRefusal text.now params.now e) }
 {
     if text.len() > 4_194_304 {
