@@ -10,6 +10,7 @@ pub mod Int8Sound
 pub mod Int8Worked
 pub mod Int8Written
 pub mod Lexing
+pub mod LiteralsBefore
 pub mod Marks
 pub mod Quoted
 pub mod Runs
