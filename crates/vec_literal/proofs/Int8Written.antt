@@ -29,7 +29,7 @@ number_spelled (negsuc n) h =
     subst (λ (z : ℤ). SpellsNumber (45 ∷ decimal (suc n)) z) same (minus_spelled (suc n) few)
 
 -- the number of a byte is an element
-byte_fits : (b : ℕ) → b < 2 ^ 8 → IsElement (cast_signed w8 b)
+pub byte_fits : (b : ℕ) → b < 2 ^ 8 → IsElement (cast_signed w8 b)
 byte_fits b h = (omega (arith, ints), omega (arith, ints))
 
 abbrev AreBytes : List ℕ → Type 0
@@ -68,7 +68,7 @@ bytes_back (b ∷ bs) h =
     ∙ ap (λ (x : List ℕ). cast_unsigned w8 (cast_signed w8 b) ∷ x) (bytes_back bs (tail_bytes b bs h))
 
 -- the literal of bytes spells them
-bytes_spell : (v : List ℕ) → AreBytes v → SpellsInt8 (int8_text v) v
+pub bytes_spell : (v : List ℕ) → AreBytes v → SpellsInt8 (int8_text v) v
 bytes_spell v h = record {
   elements = map (cast_signed w8) v;
   list = record {

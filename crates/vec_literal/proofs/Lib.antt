@@ -16,3 +16,4 @@ pub mod Quoted
 pub mod Runs
 pub mod Sorts
 pub mod Texts
+pub mod ValuesBefore

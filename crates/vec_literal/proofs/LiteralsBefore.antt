@@ -1,5 +1,5 @@
 -- What a literal or a mark in front of some bytes adds to their tokens.
-use Rattle.std.proofs.Common.{◌≡◌, ℕ, zero, suc, ◌+◌, ◌-◌, ◌^◌, ◌%◌, ◌/◌, ◌<◌, ◌≤◌, Bool, true, false, not, ◌||◌, ◌&&◌, inl, inr, List, [], ◌∷◌, ◌++◌, codes, length, take, drop, get_or, Option, Some, None, All, ◌==◌, refl, sym, ◌∙◌, ap, subst, arith, append_assoc, length-append, eq-eqb}
+use Rattle.std.proofs.Common.{◌≡◌, ℕ, zero, suc, ◌+◌, ◌-◌, ◌^◌, ◌%◌, ◌/◌, ◌<◌, ◌≤◌, Bool, true, false, not, ◌||◌, ◌&&◌, inl, inr, List, [], ◌∷◌, ◌++◌, codes, length, take, drop, get_or, Option, Some, All, ◌==◌, refl, sym, ◌∙◌, ap, subst, arith, append_assoc, length-append, eq-eqb}
 use Rattle.std.specs.Prelude.{ℤ, pos, negsuc, ◌≤ℤ◌, slice_index}
 use Rattle.std.proofs.Math.Seq.{drop-append_seam, take-append-add}
 use Rattle.std.proofs.lemmas.Bool.{and_parts, and_from, both_ways, not_from_false, not-true, cases_eq, cond-true, cond-false, ne_eqb}
@@ -17,9 +17,9 @@ use Rattle.vec_literal.specs.declared.token.TokenSort.TheVariants as sorts
 use Rattle.vec_literal.specs.Lexemes.{Lexeme, number_lexeme, mark_lexeme, text_lexeme, blob_lexeme}
 use Rattle.vec_literal.specs.Stretches.{sort_at, is_single, is_pair, is_quoted_text, EndsAt}
 use Rattle.vec_literal.specs.Tokens.{is_white, is_mark_text, begins_blob, is_hex_to_quote, is_spelling, unquoted, enclosed}
-use Rattle.vec_literal.specs.Values.{doubled, quoted, hex_byte, hex_text, blob_text}
+use Rattle.vec_literal.specs.Values.{doubled, quoted, hex_text, blob_text}
 use Rattle.vec_literal.proofs.Decimals.{decimal_number}
-use Rattle.vec_literal.proofs.Following.{HasTokens, at_seam, past_seam, longer, front_slice, token_step, token_there, stops, unpaired, number_before, mark_before, false_and}
+use Rattle.vec_literal.proofs.Following.{HasTokens, at_seam, past_seam, longer, front_slice, token_step, token_there, stops, unpaired, number_before, mark_before}
 use Rattle.vec_literal.proofs.Marks.{pair_ends}
 use Rattle.vec_literal.proofs.Sorts.{sort_front}
 use Rattle.vec_literal.proofs.Texts.{map_map, map_same}
@@ -121,7 +121,7 @@ text_before text rest words u e h =
 
 -- ---- blob literals
 
-abbrev AreBytes : List ℕ → Type 0
+abbrev pub AreBytes : List ℕ → Type 0
 AreBytes bytes = All (λ b. b < 2 ^ 8) bytes
 
 -- the digits of the table
@@ -229,9 +229,13 @@ abbrev pub signed_lexemes : ℤ → List Lexeme
 signed_lexemes (pos n) = number_lexeme (decimal n) ∷ []
 signed_lexemes (negsuc n) = mark_lexeme (codes "-") ∷ number_lexeme (decimal (suc n)) ∷ []
 
-pub signed_before : (z : ℤ) (rest : List ℕ) (words : List Lexeme) → negsuc (2 ^ 63 - 1) ≤ℤ z → z ≤ℤ pos (2 ^ 63 - 1) → stops is_ascii_digit rest ≡ true → HasTokens rest words →
+-- from -9,223,372,036,854,775,808 to 9,223,372,036,854,775,807
+abbrev pub IsSmall : ℤ → Type 0
+IsSmall z = (negsuc (2 ^ 63 - 1) ≤ℤ z) × (z ≤ℤ pos (2 ^ 63 - 1))
+
+pub signed_before : (z : ℤ) (rest : List ℕ) (words : List Lexeme) → IsSmall z → stops is_ascii_digit rest ≡ true → HasTokens rest words →
     HasTokens (signed_decimal z ++ rest) (signed_lexemes z ++ words)
-signed_before (pos n) rest words low high e h = number_before (decimal n) rest words (decimal_number n (omega (arith, ints, high))) e h
-signed_before (negsuc n) rest words low high e h =
+signed_before (pos n) rest words few e h = number_before (decimal n) rest words (decimal_number n (omega (arith, ints, few.1))) e h
+signed_before (negsuc n) rest words few e h =
     lone_before 45 (decimal (suc n) ++ rest) (number_lexeme (decimal (suc n)) ∷ words) refl
-    (number_before (decimal (suc n)) rest words (decimal_number (suc n) (omega (arith, ints, low))) e h)
+    (number_before (decimal (suc n)) rest words (decimal_number (suc n) (omega (arith, ints, few.0))) e h)
