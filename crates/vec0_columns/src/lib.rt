@@ -9,6 +9,7 @@ mod write;
 
 pub use read::{read_columns, read_columns_at};
 pub use rule::schema_rule;
+pub use text::{Arg, Spelled};
 pub use write::write_columns;
 
 #[cfg(test)]

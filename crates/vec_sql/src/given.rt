@@ -1,0 +1,78 @@
+use row_model::{Items, Order};
+use vec0_columns::Arg;
+use vec_base::{List, Op, Txt, Value};
+
+/// A value as a text gives it: parameters and the texts of vectors are not looked into yet.
+#[derive(Debug, Drop)]
+pub enum Given {
+    Value(Value),
+    /// A parameter, by its number from 1.
+    Parameter(u16),
+    /// An int8 vector by a text literal: the literal's place, and the text that it stands for.
+    Int8Text(usize, Txt),
+    /// An int8 vector by a parameter.
+    Int8Parameter(u16),
+    /// A bit vector by a parameter.
+    BitsParameter(u16),
+}
+
+/// The values of a row of an INSERT, and the place of the parenthesis that closes them.
+#[derive(Debug, Drop)]
+pub struct Group {
+    pub values: List<Given>,
+    pub close: usize,
+}
+
+/// A column and the value that it is set to.
+#[derive(Debug, Drop)]
+pub struct GivenAssign {
+    pub column: Txt,
+    pub value: Given,
+}
+
+/// What a term asks of its column.
+#[derive(Debug, Drop)]
+pub enum GivenTest {
+    Compare(Op, Given),
+    Member(List<Given>),
+    Match(Given),
+}
+
+/// A term of WHERE.
+#[derive(Debug, Drop)]
+pub struct GivenTerm {
+    pub column: Txt,
+    pub test: GivenTest,
+}
+
+/// A SELECT.
+#[derive(Debug, Drop)]
+pub struct GivenSelect {
+    pub table: Txt,
+    pub items: Items,
+    pub wanted: List<GivenTerm>,
+    pub order: Order,
+    pub limit: Option<Given>,
+}
+
+/// A statement as a text gives it. Names are in lower case.
+#[derive(Debug, Drop)]
+pub enum GivenStatement {
+    /// The table's name and its columns.
+    Create(Txt, List<Arg>),
+    Drop(Txt),
+    /// The table's name, the names of columns, and a group for each row.
+    Insert(Txt, List<Txt>, List<Group>),
+    /// The table's name, the columns that are set, and the terms.
+    Update(Txt, List<GivenAssign>, List<GivenTerm>),
+    Delete(Txt, List<GivenTerm>),
+    Select(GivenSelect),
+    Explain(GivenSelect),
+    /// The flag is set where IMMEDIATE stands.
+    Begin(bool),
+    Commit,
+    Rollback,
+    RollbackTo(Txt),
+    Savepoint(Txt),
+    Release(Txt),
+}
