@@ -1,3 +1,4 @@
+pub mod Adding
 pub mod BitsLaws
 pub mod Decimals
 pub mod Following

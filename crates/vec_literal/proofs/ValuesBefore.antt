@@ -105,7 +105,7 @@ abbrev pub ends_value : List ℕ → Bool
 ends_value [] = true
 ends_value (b ∷ bs) = b == 32 || b == 44 || b == 41
 
-ended_word : (rest : List ℕ) → ends_value rest ≡ true → ends_word rest ≡ true
+pub ended_word : (rest : List ℕ) → ends_value rest ≡ true → ends_word rest ≡ true
 ended_word [] h = refl
 ended_word (b ∷ bs) h = grind (arith, nat_tests)
 
