@@ -3,3 +3,4 @@ pub mod Laws
 pub mod Lexemes
 pub mod Loops
 pub mod Places
+pub mod LexemesGive

@@ -17,7 +17,7 @@ use Rattle.vec_literal.specs.declared.token.TokenSort.TheVariants as sorts
 use Rattle.vec_literal.specs.Lexemes.{Lexeme, number_lexeme, mark_lexeme, text_lexeme, blob_lexeme}
 use Rattle.vec_literal.specs.Stretches.{sort_at, is_single, is_pair, is_quoted_text, EndsAt}
 use Rattle.vec_literal.specs.Tokens.{is_white, is_mark_text, begins_blob, is_hex_to_quote, is_spelling, unquoted, enclosed}
-use Rattle.vec_literal.specs.Values.{doubled, quoted, hex_text, blob_text}
+use Rattle.vec_literal.specs.ValueTexts.{doubled, quoted, hex_text, blob_text}
 use Rattle.vec_literal.proofs.Decimals.{decimal_number}
 use Rattle.vec_literal.proofs.Following.{HasTokens, at_seam, past_seam, longer, front_slice, token_step, token_there, stops, unpaired, number_before, mark_before}
 use Rattle.vec_literal.proofs.Marks.{pair_ends}

@@ -22,7 +22,7 @@ use Rattle.vec_base.specs.declared.value.Value.TheVariants.{Null, Int, Text, Blo
 use Rattle.vec_literal.specs.Bits.{SpellsBits}
 use Rattle.vec_literal.specs.Int8.{IsElement, elements_text, int8_text}
 use Rattle.vec_literal.specs.Lexemes.{Lexeme, word_lexeme, mark_lexeme, text_lexeme, blob_lexeme}
-use Rattle.vec_literal.specs.Values.{doubled, quoted, hex_text, blob_text, value_text}
+use Rattle.vec_literal.specs.ValueTexts.{doubled, quoted, hex_text, blob_text, value_text}
 use Rattle.vec_literal.proofs.BitsLaws.{decoded_spelled}
 use Rattle.vec_literal.proofs.Following.{HasTokens, word_before, stops, ends_word}
 use Rattle.vec_literal.proofs.Int8Laws.{no_quote}

@@ -5,4 +5,4 @@ pub mod Int8Reading
 pub mod Lexemes
 pub mod Stretches
 pub mod Tokens
-pub mod Values
+pub mod ValueTexts
