@@ -10,7 +10,8 @@ use Rattle.row_model.specs.declared.state.State.{State}
 use Rattle.row_model.specs.declared.request.Request.TheVariants.{OpenSession, Execute}
 use Rattle.row_model.specs.declared.request.Reply.{Reply}
 use Rattle.row_model.specs.declared.request.Reply.TheVariants.{Session, Refused}
-use Rattle.row_model.specs.Machine.{first_state, answer_of, Steps}
+use Rattle.row_model.specs.Machine.{first_state}
+use Rattle.row_model.specs.Step.{answer_of, Steps}
 
 -- the reply to what was read: a refusal of the reading, which changes nothing, or a step with the statement
 abbrev pub AnswersRead : State → ℕ → Result Statement Refusal → Reply → State → Type 0
