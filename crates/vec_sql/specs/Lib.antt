@@ -1,3 +1,4 @@
+pub mod Canonical
 pub mod Givens
 pub mod Reads
 pub mod Statements
