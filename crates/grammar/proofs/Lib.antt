@@ -1,6 +1,8 @@
+mod Worked
 pub mod Factoring
 pub mod Laws
 pub mod Lexemes
-pub mod Loops
-pub mod Places
 pub mod LexemesGive
+pub mod Loops
+pub mod Numbering
+pub mod Places

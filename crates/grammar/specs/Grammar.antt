@@ -1,9 +1,10 @@
 -- Grammars as data: the forms of their lines, what spells a part, and where a text fails.
-use Rattle.std.specs.Prelude.{◌≡◌, ℕ, ◌-◌, ◌^◌, Bool, true, false, not, ◌&&◌, ◌⊎◌, List, [], ◌∷◌, ◌++◌, length, drop, ◌≤◌, Option, Some, None, map, nat_le, IsTrue, bytes_eq}
+use Rattle.std.specs.Prelude.{◌≡◌, ℕ, ℤ, pos, ◌-ℤ◌, codes, ◌-◌, ◌^◌, Bool, true, false, not, ◌&&◌, ◌⊎◌, List, [], ◌∷◌, ◌++◌, length, drop, ◌≤◌, Option, Some, None, map, nat_le, IsTrue, bytes_eq}
 use Rattle.std.specs.Char.{to_ascii_lowercase}
 use Rattle.std.specs.Str.Parse.{digits_value}
 use Rattle.vec_base.specs.Words.{is_reserved}
 use Rattle.vec_literal.specs.Tokens.{Token}
+use Rattle.vec_literal.specs.Values.{text_value, quoted_bytes, blob_value}
 use Rattle.vec_literal.specs.declared.token.TokenSort.{TokenSort}
 use Rattle.vec_literal.specs.declared.token.TokenSort.TheVariants as sorts
 
@@ -102,6 +103,40 @@ a_name = means lower (one name)
 
 abbrev pub a_number : Part ℕ
 a_number = means number_of (one number)
+
+-- a number as it may follow `-`
+abbrev pub a_number_after_minus : Part ℕ
+a_number_after_minus = means number_of (one number_after_minus)
+
+-- + Number | - Number | Number
+unfoldable pub a_signed_number : Part ℤ
+a_signed_number =
+    alt (a_mark (codes "+") ▸ means (λ n. pos n) a_number)
+    (alt (a_mark (codes "-") ▸ means (λ n. pos 0 -ℤ pos n) a_number_after_minus) (means (λ n. pos n) a_number))
+
+-- a text literal, which stands for its text
+abbrev pub a_text : Part (List ℕ)
+a_text = means (λ t. text_value t.spelling) (one text_literal)
+
+-- a text literal, which stands for its place and its text
+abbrev pub a_placed_text : Part (ℕ × List ℕ)
+a_placed_text = means (λ t. (t.place, text_value t.spelling)) (one text_literal)
+
+-- a text literal, which stands for its place and what its quotes enclose as it is spelled
+abbrev pub a_quoted : Part (ℕ × List ℕ)
+a_quoted = means (λ t. (t.place, quoted_bytes t.spelling)) (one text_literal)
+
+-- a blob literal, which stands for its bytes
+abbrev pub a_blob : Part (List ℕ)
+a_blob = means (λ t. blob_value t.spelling) (one blob_literal)
+
+-- a parameter, which stands for its number
+abbrev pub a_parameter : Part ℕ
+a_parameter = means parameter_number (one parameter)
+
+-- a mark, which stands for its place
+abbrev pub a_placed_mark : List ℕ → Part ℕ
+a_placed_mark m = means (λ t. t.place) (one (sign m))
 
 -- the list is one of P and then one of Q
 pub record Joined (ts : List Token) (P Q : List Token → Type 0) : Type 0 where

@@ -1,6 +1,7 @@
 //! Grammars as data, and a reader of tokens with one of them at hand.
 #![tactic(auto)]
 
+mod numbers;
 mod reader;
 mod words;
 

@@ -6,3 +6,4 @@ pub mod Lexemes
 pub mod Stretches
 pub mod Tokens
 pub mod ValueTexts
+pub mod Values

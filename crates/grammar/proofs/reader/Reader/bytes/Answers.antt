@@ -1,0 +1,9 @@
+use Rattle.grammar.specs.Gives.{spelled_rest}
+use Rattle.grammar.proofs.Numbering.{spelling_kept, told_kept}
+use Rattle.grammar.proofs.reader.Reader.bytes.Goals as goal
+
+pub returns-clause-value : goal.returns-clause-value
+returns-clause-value c = spelling_kept c.args.self.now.greatest (spelled_rest c.args.self.now) c.spelling.result.now c.requires c.spelling.ensures.value
+
+pub returns-clause-told : goal.returns-clause-told
+returns-clause-told c = told_kept c.args.self.now.greatest (spelled_rest c.args.self.now) c.requires c.spelling.ensures.told
