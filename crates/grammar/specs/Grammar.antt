@@ -47,6 +47,10 @@ number_of t = digits_value 10 t.spelling
 abbrev pub parameter_number : Token → ℕ
 parameter_number t = digits_value 10 (drop 1 t.spelling)
 
+-- the text that a text literal stands for
+abbrev pub text_of : Token → List ℕ
+text_of t = text_value t.spelling
+
 abbrev pub lowered : List ℕ → List ℕ
 lowered w = map to_ascii_lowercase w
 
@@ -116,11 +120,11 @@ a_signed_number =
 
 -- a text literal, which stands for its text
 abbrev pub a_text : Part (List ℕ)
-a_text = means (λ t. text_value t.spelling) (one text_literal)
+a_text = means text_of (one text_literal)
 
 -- a text literal, which stands for its place and its text
 abbrev pub a_placed_text : Part (ℕ × List ℕ)
-a_placed_text = means (λ t. (t.place, text_value t.spelling)) (one text_literal)
+a_placed_text = means (λ t. (t.place, text_of t)) (one text_literal)
 
 -- a text literal, which stands for its place and what its quotes enclose as it is spelled
 abbrev pub a_quoted : Part (ℕ × List ℕ)

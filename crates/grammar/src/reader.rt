@@ -42,10 +42,10 @@ pub struct Reader<'a> {
 impl<'a> Reader<'a> {
     ghost use Rattle.std.specs.Prelude.{◌≡◌, ℕ, ℤ, pos, ◌-ℤ◌, [], ◌∷◌, drop, map, vec_items, ◌||◌, Some, IfOk, MatchBool};
     ghost use Rattle.vec_literal.specs.Tokens.{tokens};
-    ghost use Rattle.vec_literal.specs.Values.{text_value, undoubled, blob_value};
+    ghost use Rattle.vec_literal.specs.Values.{undoubled, blob_value};
     ghost use Rattle.vec_literal.specs.declared.token.TokenSort.TheVariants.{Word as word_sort, Param as param_sort};
     ghost use Rattle.grammar.specs.Gives.{rest_of, spelled_rest, Gives, first_of, AtNumber, AtParameter, next_number, is_told, is_param_told, place_of, refusal_of};
-    ghost use Rattle.grammar.specs.Grammar.{keyword, name as name_class, number as number_class, text_literal as text_class, blob_literal as blob_class, parameter as parameter_class, sign, means, a_word, a_mark, a_placed_mark, a_name, a_number, a_number_after_minus, a_signed_number, a_text, a_placed_text, a_quoted, a_blob, a_parameter, lower, is_sort};
+    ghost use Rattle.grammar.specs.Grammar.{keyword, name as name_class, number as number_class, text_literal as text_class, blob_literal as blob_class, parameter as parameter_class, sign, means, a_word, a_mark, a_placed_mark, a_name, a_number, a_number_after_minus, a_signed_number, a_text, a_placed_text, a_quoted, a_blob, a_parameter, lower, text_of, is_sort};
     ghost use Rattle.grammar.specs.Parameters.{numbered_tokens};
     ghost use Rattle.vec_base.specs.Words.{is_name};
     ghost use Rattle.grammar.specs.Reading.{next_in, read, starts};
@@ -330,7 +330,7 @@ impl<'a> Reader<'a> {
     #[tactic(auto, using(crate::proofs::Numbering::text_no_parameter, crate::proofs::Numbering::text_spelled))]
     fn text_at_hand(&self) -> Result<Txt, Memory>
         requires { next_in (text_class ∷ []) (rest_of self.now) ≡ true }
-        ensures { IfOk result (λ t. t ≡ text_value (first_of (rest_of self.now)).spelling) }
+        ensures { IfOk result (λ t. t ≡ text_of (first_of (rest_of self.now))) }
     {
         read_text(self.alloc, self.bytes())
     }
@@ -346,6 +346,20 @@ impl<'a> Reader<'a> {
         let text = self.text_at_hand()?;
         self.step();
         Ok(text)
+    }
+
+    /// Reads a text literal: its place, and the text that it stands for.
+    #[tactic(auto, using(crate::proofs::Places::means_fits, crate::proofs::Places::means_fails, crate::proofs::Numbering::text_no_parameter))]
+    pub fn placed_text(&mut self) -> Result<(usize, Txt), Stop>
+        ensures { Gives (λ x. x) result (read a_placed_text (rest_of self.old)) (rest_of self.new) }
+    {
+        if !self.at_text() {
+            return Err(Stop::Here);
+        }
+        let place = self.place(0);
+        let text = self.text_at_hand()?;
+        self.step();
+        Ok((place, text))
     }
 
     /// Reads a text literal: its place, and the bytes between its quotes as they stand in the text, where each quote is

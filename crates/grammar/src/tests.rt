@@ -36,6 +36,10 @@ fn literals_and_parameters_are_read(rt: HostRuntime) -> Result<(), Fail> {
         return Err(Fail::from("no text"));
     };
     assert_eq!(rt; read.as_text(), "a'b");
+    let Ok((place, _)) = Reader::with_parameters(rt.alloc(), b"  'x'").placed_text() else {
+        return Err(Fail::from("no text"));
+    };
+    assert_eq!(rt; place, 2);
     assert_eq!(rt; reader.parameter().ok(), Some(7));
     let Ok(bytes) = reader.blob() else {
         return Err(Fail::from("no blob"));

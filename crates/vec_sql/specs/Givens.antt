@@ -1,5 +1,5 @@
 -- What a statement holds: the values that its text gives, and what the parameters are used for.
-use Rattle.std.specs.Prelude.{◌≡◌, ℕ, ◌==◌, Bool, List, [], ◌∷◌, ◌++◌, length, map, Option, Some, None}
+use Rattle.std.specs.Prelude.{ℕ, ◌==◌, Bool, List, [], ◌∷◌, ◌++◌, length, map, Option, Some, None}
 use Rattle.std.specs.List.{flat_map}
 use Rattle.row_model.specs.declared.statement.Items.{Items}
 use Rattle.row_model.specs.declared.statement.Items.TheVariants.{All, Named}

@@ -1,15 +1,15 @@
 -- What a text spells with parameters: a statement, or the refusal of the reading.
-use Rattle.std.specs.Prelude.{◌≡◌, ℕ, ◌+◌, ◌-◌, ◌<◌, ◌≤◌, ◌⊎◌, true, false, if◌then◌else◌, nat_lt, List, [], ◌∷◌, ◌++◌, length, max, fold, slice_index_or, Option, Some, None, Result, Ok, Err, ⊤}
+use Rattle.std.specs.Prelude.{◌≡◌, ℕ, ◌+◌, ◌-◌, ◌<◌, ◌≤◌, ◌⊎◌, true, if◌then◌else◌, nat_lt, List, [], ◌∷◌, ◌++◌, length, max, slice_index_or, Option, Some, None, Result, Ok, Err, ⊤}
 use Rattle.std.specs.List.{AllByRecursion}
 use Rattle.vec_base.specs.declared.refusal.Refusal.{Refusal}
 use Rattle.vec_base.specs.declared.refusal.Refusal.TheVariants as refusals
 use Rattle.vec_base.specs.declared.value.Value.{Value}
 use Rattle.vec_base.specs.declared.value.Value.TheVariants as values
 use Rattle.vec_literal.specs.Int8.{SpellsInt8}
-use Rattle.vec_literal.specs.Tokens.{Token, tokens}
+use Rattle.vec_literal.specs.Tokens.{Token}
 use Rattle.grammar.specs.Gives.{refusal_of}
 use Rattle.grammar.specs.Grammar.{Spells, FailsAt}
-use Rattle.grammar.specs.Parameters.{numbered}
+use Rattle.grammar.specs.Parameters.{numbered_tokens}
 use Rattle.row_model.specs.declared.statement.Assign.{Assign}
 use Rattle.row_model.specs.declared.statement.Constraint.{Constraint}
 use Rattle.row_model.specs.declared.statement.Delete.{Delete}
@@ -46,14 +46,14 @@ place_of (literal place text) = place
 place_of (row place right) = place
 
 -- the place of the first of these that is not fine
-pub record IsFirstBad (all : List Concern) (place : ℕ) : Type 0 where
+pub record IsFirstBad (all : List Concern) (at : ℕ) : Type 0 where
   pub before : List Concern
   pub bad : Concern
   pub behind : List Concern
   pub whole : all ≡ before ++ bad ∷ behind
   pub fine : AllByRecursion IsFine before
   pub not_fine : IsFine bad → ⊥
-  pub place : place ≡ place_of bad
+  pub place : at ≡ place_of bad
 
 -- ---- parameters
 
@@ -73,12 +73,12 @@ abbrev pub parameter : List Value → ℕ → Value
 parameter params n = slice_index_or params (n - 1) values.Null
 
 abbrev pub IsTaken : List Value → Use → Type 0
-IsTaken params use = Takes use.taker (parameter params use.number)
+IsTaken params used = Takes used.taker (parameter params used.number)
 
 -- the greatest number of a parameter, 0 where there is none
 abbrev pub greatest : List Use → ℕ
 greatest [] = 0
-greatest (use ∷ more) = max use.number (greatest more)
+greatest (used ∷ more) = max used.number (greatest more)
 
 -- the least number of a parameter that is not taken
 pub record IsLeastUntaken (params : List Value) (all : List Use) (index : ℕ) : Type 0 where
@@ -88,7 +88,7 @@ pub record IsLeastUntaken (params : List Value) (all : List Use) (index : ℕ) :
   pub whole : all ≡ before ++ untaken ∷ behind
   pub number : index ≡ untaken.number
   pub not_taken : IsTaken params untaken → ⊥
-  pub least : AllByRecursion (λ use. use.number < index → IsTaken params use) all
+  pub least : AllByRecursion (λ used. used.number < index → IsTaken params used) all
 
 -- too few, too many, or one that is not taken
 abbrev pub IsParameterFault : List Value → List Use → ℕ → Type 0
@@ -165,7 +165,7 @@ abbrev pub MeansAssign : List Value → GivenAssign → Assign → Type 0
 MeansAssign params given set = (set.column ≡ given.column) × MeansValue params given.value set.value
 
 abbrev pub MeansGroup : List Value → Group → List Value → Type 0
-MeansGroup params group row = Each (MeansValue params) group.values row
+MeansGroup params group values = Each (MeansValue params) group.values values
 
 pub record MeansSelect (params : List Value) (given : GivenSelect) (select : Select) : Type 0 where
   pub table : select.table ≡ given.table
@@ -174,18 +174,18 @@ pub record MeansSelect (params : List Value) (given : GivenSelect) (select : Sel
   pub order : select.order ≡ given.order
   pub limit : EachOption (MeansValue params) given.limit select.limit
 
-pub record MeansInsert (params : List Value) (table : List ℕ) (names : List (List ℕ)) (groups : List Group) (insert : Insert) : Type 0 where
-  pub table : insert.table ≡ table
+pub record MeansInsert (params : List Value) (name : List ℕ) (names : List (List ℕ)) (groups : List Group) (insert : Insert) : Type 0 where
+  pub table : insert.table ≡ name
   pub columns : insert.columns ≡ names
   pub rows : Each (MeansGroup params) groups insert.rows
 
-pub record MeansUpdate (params : List Value) (table : List ℕ) (sets : List GivenAssign) (terms : List GivenTerm) (update : Update) : Type 0 where
-  pub table : update.table ≡ table
-  pub sets : Each (MeansAssign params) sets update.sets
+pub record MeansUpdate (params : List Value) (name : List ℕ) (assigns : List GivenAssign) (terms : List GivenTerm) (update : Update) : Type 0 where
+  pub table : update.table ≡ name
+  pub sets : Each (MeansAssign params) assigns update.sets
   pub wanted : Each (MeansTerm params) terms update.wanted
 
-pub record MeansDelete (params : List Value) (table : List ℕ) (terms : List GivenTerm) (delete : Delete) : Type 0 where
-  pub table : delete.table ≡ table
+pub record MeansDelete (params : List Value) (name : List ℕ) (terms : List GivenTerm) (delete : Delete) : Type 0 where
+  pub table : delete.table ≡ name
   pub wanted : Each (MeansTerm params) terms delete.wanted
 
 -- the statement that is given so, with these parameters
@@ -206,14 +206,10 @@ Means params (statements.Release name) result = result ≡ read.Release name
 
 -- ---- what is answered
 
--- the tokens of the text, with a number for each plain `?`
-abbrev pub text_tokens : List ℕ → List Token
-text_tokens text = numbered 0 (tokens text 0)
-
 -- the text is not too long, and is one of the grammar
 pub record IsGiven (text : List ℕ) (given : GivenStatement) : Type 0 where
   pub within : length text ≤ text_limit
-  pub spelled : Spells statement (text_tokens text) given
+  pub spelled : Spells statement (numbered_tokens text) given
 
 -- each text of a vector spells one, and each row has a value for each name
 abbrev pub AllFine : GivenStatement → Type 0
@@ -233,7 +229,7 @@ pub record SpellsStatement (text : List ℕ) (params : List Value) (result : Sta
 abbrev pub FailsBy : List ℕ → Refusal → Type 0
 FailsBy text e =
     ((text_limit < length text) × (e ≡ refusals.Syntax text_limit))
-    ⊎ ((rest : List Token) × (length text ≤ text_limit) × FailsAt statement (text_tokens text) rest × (e ≡ refusal_of (length text) rest))
+    ⊎ ((rest : List Token) × (length text ≤ text_limit) × FailsAt statement (numbered_tokens text) rest × (e ≡ refusal_of (length text) rest))
 
 -- The refusal of a text that spells no statement with these parameters. What comes first in this order is answered: the
 -- text's length and its grammar; texts of vectors and the lengths of rows; parameters; counts; the rules of schemas.

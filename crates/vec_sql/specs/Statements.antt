@@ -1,11 +1,10 @@
 -- The grammar of statements, line by line. Words in capitals are read in any case.
-use Rattle.std.specs.Prelude.{◌≡◌, ℕ, ℤ, pos, Bool, true, false, List, [], ◌∷◌, Option, Some, None, codes}
+use Rattle.std.specs.Prelude.{ℕ, pos, true, false, List, [], ◌∷◌, Option, Some, None, codes}
 use Rattle.vec_base.specs.declared.value.Op.{Op}
 use Rattle.vec_base.specs.declared.value.Op.TheVariants as ops
 use Rattle.vec_base.specs.declared.value.Value.{Value}
 use Rattle.vec_base.specs.declared.value.Value.TheVariants as values
-use Rattle.vec_literal.specs.Tokens.{Token}
-use Rattle.grammar.specs.Grammar.{Part, one, seq, alt, opt, many, means, sign, text_literal, ◌▸◌, ◌◂◌, a_word, a_mark, a_name, a_text, a_blob, a_parameter, a_signed_number, text_of}
+use Rattle.grammar.specs.Grammar.{Part, seq, alt, opt, many, means, ◌▸◌, ◌◂◌, a_word, a_mark, a_placed_mark, a_name, a_text, a_placed_text, a_blob, a_parameter, a_signed_number}
 use Rattle.grammar.specs.Reading.{or_default}
 use Rattle.row_model.specs.declared.statement.Items.{Items}
 use Rattle.row_model.specs.declared.statement.Items.TheVariants as items
@@ -50,15 +49,11 @@ may_say w = opt (a_word w)
 
 -- ---- values
 
--- the text of a vector, with the place of its literal
-abbrev pub int8_text : Token → Given
-int8_text t = givens.Int8Text t.place (text_of t)
-
 -- VEC_INT8 ( TextLit | BlobLit | Param )
 unfoldable pub vec_int8 : Part Given
 vec_int8 =
     a_word (codes "VEC_INT8") ▸ in_parentheses
-    (alt (means int8_text (one text_literal)) (alt (means (λ b. givens.Value (values.Int8 b)) a_blob) (means (λ n. givens.Int8Parameter n) a_parameter)))
+    (alt (means (λ x. givens.Int8Text x.0 x.1) a_placed_text) (alt (means (λ b. givens.Value (values.Int8 b)) a_blob) (means (λ n. givens.Int8Parameter n) a_parameter)))
 
 -- VEC_BIT ( BlobLit | Param )
 unfoldable pub vec_bit : Part Given
@@ -83,8 +78,8 @@ value =
 -- group  = ( value {, value} )
 unfoldable pub group : Part Group
 group =
-    means (λ x. record { values = x.0; close = x.1.place })
-    (a_mark (codes "(") ▸ seq (list_of value) (one (sign (codes ")"))))
+    means (λ x. record { values = x.0; close = x.1 })
+    (a_mark (codes "(") ▸ seq (list_of value) (a_placed_mark (codes ")")))
 
 -- ---- terms
 

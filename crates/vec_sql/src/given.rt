@@ -1,6 +1,6 @@
 use row_model::{Items, Order};
-use vec0_columns::Arg;
 use vec_base::{List, Op, Txt, Value};
+use vec0_columns::Arg;
 
 /// A value as a text gives it: parameters and the texts of vectors are not looked into yet.
 #[derive(Debug, Drop)]
