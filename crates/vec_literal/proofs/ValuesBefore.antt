@@ -14,6 +14,7 @@ use Rattle.std.specs.Fmt.{signed_decimal}
 use Rattle.std.specs.Int.{w8, cast_signed}
 use Rattle.std.specs.Int.Signed.{mag}
 use Rattle.std.specs.List.{list_all}
+use Rattle.std.specs.Option.{unwrap_or}
 use Rattle.std.specs.Str.{IsAscii, IsUtf8}
 use Rattle.hex.specs.Hex.{IsBytes, encode_with, upper_digits, encode_upper}
 use Rattle.hex.proofs.HexLemmas.{decode_of-encode_upper}
@@ -22,12 +23,14 @@ use Rattle.vec_base.specs.declared.value.Value.TheVariants.{Null, Int, Text, Blo
 use Rattle.vec_literal.specs.Bits.{SpellsBits}
 use Rattle.vec_literal.specs.Int8.{IsElement, elements_text, int8_text}
 use Rattle.vec_literal.specs.Lexemes.{Lexeme, word_lexeme, mark_lexeme, text_lexeme, blob_lexeme}
+use Rattle.vec_literal.specs.Values.{text_value, blob_value}
 use Rattle.vec_literal.specs.ValueTexts.{doubled, quoted, hex_text, blob_text, value_text}
 use Rattle.vec_literal.proofs.BitsLaws.{decoded_spelled}
+use Rattle.vec_literal.proofs.Enclosed.{pairs_front}
 use Rattle.vec_literal.proofs.Following.{HasTokens, word_before, stops, ends_word}
 use Rattle.vec_literal.proofs.Int8Laws.{no_quote}
 use Rattle.vec_literal.proofs.Int8Written.{bytes_spell, byte_fits}
-use Rattle.vec_literal.proofs.LiteralsBefore.{AreBytes, IsSmall, signed_lexemes, signed_before, ends_quote, text_before, blob_before, lone_before}
+use Rattle.vec_literal.proofs.LiteralsBefore.{AreBytes, IsSmall, signed_lexemes, signed_before, ends_quote, text_before, blob_before, lone_before, enclosed_quoted}
 
 -- ---- vectors
 
@@ -76,6 +79,14 @@ doubled_plain (b ∷ bs) h =
 
 pub quoted_int8 : (vector : List ℕ) → AreBytes vector → quoted (int8_text vector) ≡ 39 ∷ (int8_text vector ++ 39 ∷ [])
 quoted_int8 vector h = ap (λ (z : List ℕ). 39 ∷ (z ++ 39 ∷ [])) (doubled_plain (int8_text vector) (no_quote (int8_text vector) vector (bytes_spell vector h)))
+
+-- ---- what literals stand for
+
+pub text_back : (text : List ℕ) → text_value (quoted text) ≡ text
+text_back text = ap (λ o. unwrap_or o []) (enclosed_quoted text)
+
+pub blob_back : (bytes : List ℕ) → AreBytes bytes → blob_value (blob_text bytes) ≡ bytes
+blob_back bytes h = pairs_front (hex_text bytes) bytes (hex_spells bytes h)
 
 -- ---- values
 
