@@ -13,7 +13,7 @@ use Rattle.vec_literal.specs.Tokens.{Token}
 use Rattle.vec_literal.specs.Values.{text_value, blob_value}
 use Rattle.vec_literal.specs.ValueTexts.{quoted, blob_text}
 use Rattle.vec_literal.proofs.Adding.{is_parameter, has_no_parameter}
-use Rattle.vec_literal.proofs.LiteralsBefore.{AreBytes, IsSmall, signed_lexemes}
+use Rattle.vec_literal.proofs.LiteralsBefore.{AllBytes, IsSmall, signed_lexemes}
 use Rattle.vec_literal.proofs.ValuesBefore.{text_back, blob_back}
 use Rattle.grammar.specs.Grammar.{is_sort, number_after_minus, text_literal, blob_literal, sign, number_of, text_of, fits, means, a_mark, a_number, a_number_after_minus, a_signed_number, a_text, a_placed_text, a_blob, a_placed_mark}
 use Rattle.grammar.specs.Parameters.{numbered, greatest_after}
@@ -30,7 +30,7 @@ of_text text = of_token text_literal text_of (text_lexeme (quoted text)) text (�
   sym (text_back text) ∙ ap (λ (l : Lexeme). text_value l.spelling) (sym e),
 ))
 
-pub of_blob : (bytes : List ℕ) → AreBytes bytes → LexemesSpell a_blob (blob_lexeme (blob_text bytes) ∷ []) bytes
+pub of_blob : (bytes : List ℕ) → AllBytes bytes → LexemesSpell a_blob (blob_lexeme (blob_text bytes) ∷ []) bytes
 unfolding fits
 of_blob bytes h = of_token blob_literal (λ t. blob_value t.spelling) (blob_lexeme (blob_text bytes)) bytes (λ t e. (
   ap (λ (l : Lexeme). is_sort sorts.BlobLit l.sort) e,

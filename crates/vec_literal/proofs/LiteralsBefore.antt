@@ -121,8 +121,8 @@ text_before text rest words u e h =
 
 -- ---- blob literals
 
-abbrev pub AreBytes : List ℕ → Type 0
-AreBytes bytes = All (λ b. b < 2 ^ 8) bytes
+abbrev pub AllBytes : List ℕ → Type 0
+AllBytes bytes = All (λ b. b < 2 ^ 8) bytes
 
 -- the digits of the table
 abbrev upper_digit : ℕ → ℕ
@@ -151,22 +151,22 @@ byte_hex : (b : ℕ) → b < 2 ^ 8 → (is_ascii_hexdigit (upper_digit (b / 16))
 byte_hex b few = and_from _ _ (upper_hex (b / 16) (omega (arith, few))) (upper_hex (b % 16) (omega (arith, few)))
 
 -- behind pairs of digits stands what ends them
-hex_over : (bytes rest : List ℕ) → AreBytes bytes → is_hex_to_quote (hex_text bytes ++ rest) ≡ is_hex_to_quote rest
+hex_over : (bytes rest : List ℕ) → AllBytes bytes → is_hex_to_quote (hex_text bytes ++ rest) ≡ is_hex_to_quote rest
 hex_over [] rest h = refl
 hex_over (b ∷ bs) rest h =
     ap (λ (z : Bool). z && is_hex_to_quote (hex_text bs ++ rest)) (byte_hex b (All-head (λ c. c < 2 ^ 8) b bs h))
     ∙ hex_over bs rest (All-tail (λ c. c < 2 ^ 8) b bs h)
 
-hex_longest : (bytes rest : List ℕ) → AreBytes bytes → (k : ℕ) → 0 < k → k ≤ length rest → is_hex_to_quote ((hex_text bytes ++ 39 ∷ []) ++ take k rest) ≡ true → ⊥
+hex_longest : (bytes rest : List ℕ) → AllBytes bytes → (k : ℕ) → 0 < k → k ≤ length rest → is_hex_to_quote ((hex_text bytes ++ 39 ∷ []) ++ take k rest) ≡ true → ⊥
 hex_longest bytes rest b zero some few h = absurd (omega arith)
 hex_longest bytes [] b (suc k) some few h = absurd (omega arith)
 hex_longest bytes (c ∷ cs) b (suc k) some few h =
     both_ways _ (hex_over bytes (39 ∷ c ∷ take k cs) b) (sym (ap (λ (z : List ℕ). is_hex_to_quote z) (append_assoc (hex_text bytes) (39 ∷ []) (c ∷ take k cs))) ∙ h)
 
-hex_tail : (bytes rest : List ℕ) → AreBytes bytes → IsTail is_hex_to_quote (hex_text bytes ++ 39 ∷ []) rest
+hex_tail : (bytes rest : List ℕ) → AllBytes bytes → IsTail is_hex_to_quote (hex_text bytes ++ 39 ∷ []) rest
 hex_tail bytes rest b = record { passed = hex_over bytes (39 ∷ []) b; longest = hex_longest bytes rest b }
 
-pub blob_before : (bytes rest : List ℕ) (words : List Lexeme) → AreBytes bytes → HasTokens rest words → HasTokens (blob_text bytes ++ rest) (blob_lexeme (blob_text bytes) ∷ words)
+pub blob_before : (bytes rest : List ℕ) (words : List Lexeme) → AllBytes bytes → HasTokens rest words → HasTokens (blob_text bytes ++ rest) (blob_lexeme (blob_text bytes) ∷ words)
 blob_before bytes rest words b h =
     let tail : List ℕ = hex_text bytes ++ 39 ∷ [] in
     record {

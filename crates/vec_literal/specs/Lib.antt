@@ -1,5 +1,6 @@
 pub mod Bits
 pub mod Faults
+pub mod Held
 pub mod Int8
 pub mod Int8Reading
 pub mod Lexemes
