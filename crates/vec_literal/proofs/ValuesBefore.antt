@@ -120,7 +120,7 @@ pub ended_word : (rest : List ℕ) → ends_value rest ≡ true → ends_word re
 ended_word [] h = refl
 ended_word (b ∷ bs) h = grind (arith, nat_tests)
 
-ended_number : (rest : List ℕ) → ends_value rest ≡ true → stops is_ascii_digit rest ≡ true
+pub ended_number : (rest : List ℕ) → ends_value rest ≡ true → stops is_ascii_digit rest ≡ true
 ended_number [] h = refl
 ended_number (b ∷ bs) h = grind (arith, nat_tests)
 

@@ -1,2 +1,8 @@
 pub mod Doubling
 pub mod Written
+pub mod ReadBack
+pub mod TextAdds
+pub mod TextLexemes
+pub mod TextParts
+pub mod TextStatements
+pub mod TextTerms

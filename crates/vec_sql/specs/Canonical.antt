@@ -1,5 +1,5 @@
 -- The one text that is written for a statement.
-use Rattle.std.specs.Prelude.{ℕ, List, [], ◌∷◌, ◌++◌, codes, Option, Some, None, true, false}
+use Rattle.std.specs.Prelude.{ℕ, List, [], ◌∷◌, ◌++◌, codes, Option, Some, None, Bool, true, false}
 use Rattle.std.specs.List.{flat_map}
 use Rattle.vec_base.specs.declared.value.Op.{Op}
 use Rattle.vec_base.specs.declared.value.Op.TheVariants.{Eq, Ne, Lt, Le, Gt, Ge}
@@ -102,6 +102,10 @@ update_text update = codes "UPDATE " ++ update.table ++ codes " SET " ++ listed 
 abbrev pub delete_text : DeleteRows → List ℕ
 delete_text delete = codes "DELETE FROM " ++ delete.table ++ where_text delete.wanted
 
+abbrev pub begin_text : Bool → List ℕ
+begin_text false = codes "BEGIN"
+begin_text true = codes "BEGIN IMMEDIATE"
+
 abbrev pub statement_text : Statement → List ℕ
 statement_text (Create table schema) = codes "CREATE VIRTUAL TABLE " ++ table ++ codes " USING vec0(" ++ canonical_columns schema ++ codes ")"
 statement_text (Drop table) = codes "DROP TABLE " ++ table
@@ -110,8 +114,7 @@ statement_text (Update update) = update_text update
 statement_text (Delete delete) = delete_text delete
 statement_text (Select select) = select_text select
 statement_text (Explain select) = codes "EXPLAIN " ++ select_text select
-statement_text (Begin false) = codes "BEGIN"
-statement_text (Begin true) = codes "BEGIN IMMEDIATE"
+statement_text (Begin immediate) = begin_text immediate
 statement_text Commit = codes "COMMIT"
 statement_text Rollback = codes "ROLLBACK"
 statement_text (RollbackTo name) = codes "ROLLBACK TO " ++ name

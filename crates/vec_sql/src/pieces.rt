@@ -1,6 +1,8 @@
 ghost use Rattle.std.specs.Prelude.{◌≡◌, ◌++◌, codes, string_bytes, OnOk};
 ghost use Rattle.vec_literal.specs.ValueTexts.{value_text};
 ghost use Rattle.vec_sql.specs.Canonical.{group_text, op_text, test_text};
+ghost use Rattle.vec_literal.specs.Held.{IsHeld};
+ghost use Rattle.vec_sql.specs.Held.{AreHeld, IsHeldTest};
 
 use crate::piece::{Piece, write_listed};
 use crate::write_value::write_value;
@@ -10,8 +12,11 @@ use vec_base::{List, Op, Txt, Value};
 
 impl Piece for Txt {
     ghost use Rattle.vec_sql.specs.Canonical.{name_text};
+    ghost use Rattle.std.specs.Prelude.{⊤};
 
     ghost text_of = { name_text };
+
+    ghost held = { λ name. ⊤ };
 
     fn write(&self, text: &mut String) -> Result<(), AllocError> {
         text.push_str(self.as_text())
@@ -20,8 +25,11 @@ impl Piece for Txt {
 
 impl Piece for Value {
     ghost use Rattle.vec_literal.specs.ValueTexts.{value_text};
+    ghost use Rattle.vec_literal.specs.Held.{IsHeld};
 
     ghost text_of = { value_text };
+
+    ghost held = { IsHeld };
 
     fn write(&self, text: &mut String) -> Result<(), AllocError> {
         write_value(text, self)
@@ -30,8 +38,11 @@ impl Piece for Value {
 
 impl Piece for List<Value> {
     ghost use Rattle.vec_sql.specs.Canonical.{group_text};
+    ghost use Rattle.vec_sql.specs.Held.{AreHeld};
 
     ghost text_of = { group_text };
+
+    ghost held = { AreHeld };
 
     fn write(&self, text: &mut String) -> Result<(), AllocError> {
         write_group(text, self)
@@ -40,8 +51,11 @@ impl Piece for List<Value> {
 
 impl Piece for Assign {
     ghost use Rattle.vec_sql.specs.Canonical.{assign_text};
+    ghost use Rattle.vec_sql.specs.Held.{IsHeldAssign};
 
     ghost text_of = { assign_text };
+
+    ghost held = { IsHeldAssign };
 
     fn write(&self, text: &mut String) -> Result<(), AllocError> {
         self.column.write(text)?;
@@ -52,8 +66,11 @@ impl Piece for Assign {
 
 impl Piece for Constraint {
     ghost use Rattle.vec_sql.specs.Canonical.{term_text};
+    ghost use Rattle.vec_sql.specs.Held.{IsHeldTerm};
 
     ghost text_of = { term_text };
+
+    ghost held = { IsHeldTerm };
 
     fn write(&self, text: &mut String) -> Result<(), AllocError> {
         self.column.write(text)?;
@@ -63,7 +80,8 @@ impl Piece for Constraint {
 
 /// Writes values in parentheses.
 fn write_group(text: &mut String, values: &List<Value>) -> Result<(), AllocError>
-    ensures { OnOk result (string_bytes text.new ≡ string_bytes text.old ++ group_text values.now) }
+    ensures text { OnOk result (string_bytes text.new ≡ string_bytes text.old ++ group_text values.now) }
+    ensures held { OnOk result (AreHeld values.now) }
 {
     text.push_str("(")?;
     write_listed(text, values)?;
@@ -72,7 +90,8 @@ fn write_group(text: &mut String, values: &List<Value>) -> Result<(), AllocError
 
 /// Writes what a term asks of its column.
 fn write_test(text: &mut String, test: &Test) -> Result<(), AllocError>
-    ensures { OnOk result (string_bytes text.new ≡ string_bytes text.old ++ test_text test.now) }
+    ensures text { OnOk result (string_bytes text.new ≡ string_bytes text.old ++ test_text test.now) }
+    ensures held { OnOk result (IsHeldTest test.now) }
 {
     match test {
         Test::Compare(op, value) => write_comparison(text, *op, value),
@@ -89,7 +108,8 @@ fn write_test(text: &mut String, test: &Test) -> Result<(), AllocError>
 
 /// Writes a comparison, with a space on both sides of the operator.
 fn write_comparison(text: &mut String, op: Op, value: &Value) -> Result<(), AllocError>
-    ensures { OnOk result (string_bytes text.new ≡ string_bytes text.old ++ (codes " " ++ op_text op ++ codes " " ++ value_text value.now)) }
+    ensures text { OnOk result (string_bytes text.new ≡ string_bytes text.old ++ (codes " " ++ op_text op ++ codes " " ++ value_text value.now)) }
+    ensures held { OnOk result (IsHeld value.now) }
 {
     text.push_str(" ")?;
     text.push_str(op_mark(op))?;

@@ -1,6 +1,10 @@
-ghost use Rattle.std.specs.Prelude.{◌≡◌, ◌++◌, codes, string_bytes, IfOk, OnOk};
+ghost use Rattle.std.specs.Prelude.{◌≡◌, ◌≤◌, [], ◌++◌, codes, length, string_bytes, IfOk, OnOk};
+ghost use Rattle.std.specs.List.{AllByRecursion};
 ghost use Rattle.row_model.specs.Canonical.{canonical_columns};
-ghost use Rattle.vec_sql.specs.Canonical.{where_text, items_text, order_text, limit_text, select_text, insert_text, update_text, delete_text, statement_text};
+ghost use Rattle.row_model.specs.WellFormed.{IsWellFormed};
+ghost use Rattle.vec_sql.specs.Canonical.{begin_text, where_text, items_text, order_text, limit_text, select_text, insert_text, update_text, delete_text, statement_text};
+ghost use Rattle.vec_sql.specs.Held.{AreHeld, IsHeldAssign, IsHeldTerm, IsHeldLimit, IsHeldSelect, IsHeldStatement};
+ghost use Rattle.vec_sql.specs.Reads.{SpellsStatement};
 
 use crate::piece::{Piece, write_listed, write_separated};
 use crate::write_value::write_value;
@@ -13,25 +17,41 @@ use vec_base::{List, Memory, Txt, Value};
 /// without parameters gives the statement back.
 pub fn write_statement(alloc: Global, statement: &Statement) -> Result<Txt, Memory>
     ensures text { IfOk result (λ text. text ≡ statement_text statement.now) }
+    ensures reads_back { IsWellFormed statement.now → IfOk result (λ text. length text ≤ 4194304 → SpellsStatement text [] statement.now) }
 {
     let mut text = String::new(alloc);
+    write(alloc, &mut text, statement)?;
+    Ok(Txt::from_string(text))
+}
+
+/// Writes the statement.
+fn write(alloc: Global, text: &mut String, statement: &Statement) -> Result<(), Memory>
+    ensures text { OnOk result (string_bytes text.new ≡ string_bytes text.old ++ statement_text statement.now) }
+    ensures held { OnOk result (IsHeldStatement statement.now) }
+{
     match statement {
-        Statement::Create(table, schema) => write_create(alloc, &mut text, table, schema)?,
-        Statement::Drop(table) => write_two(&mut text, "DROP TABLE ", table.as_text())?,
-        Statement::Insert(insert) => write_insert(&mut text, insert)?,
-        Statement::Update(update) => write_update(&mut text, update)?,
-        Statement::Delete(delete) => write_delete(&mut text, delete)?,
-        Statement::Select(select) => write_select(&mut text, select)?,
-        Statement::Explain(select) => write_explain(&mut text, select)?,
-        Statement::Begin(false) => text.push_str("BEGIN")?,
-        Statement::Begin(true) => text.push_str("BEGIN IMMEDIATE")?,
+        Statement::Create(table, schema) => write_create(alloc, text, table, schema)?,
+        Statement::Drop(table) => write_two(text, "DROP TABLE ", table.as_text())?,
+        Statement::Insert(insert) => write_insert(text, insert)?,
+        Statement::Update(update) => write_update(text, update)?,
+        Statement::Delete(delete) => write_delete(text, delete)?,
+        Statement::Select(select) => write_select(text, select)?,
+        Statement::Explain(select) => write_explain(text, select)?,
+        Statement::Begin(immediate) => text.push_str(begin_words(*immediate))?,
         Statement::Commit => text.push_str("COMMIT")?,
         Statement::Rollback => text.push_str("ROLLBACK")?,
-        Statement::RollbackTo(name) => write_two(&mut text, "ROLLBACK TO ", name.as_text())?,
-        Statement::Savepoint(name) => write_two(&mut text, "SAVEPOINT ", name.as_text())?,
-        Statement::Release(name) => write_two(&mut text, "RELEASE ", name.as_text())?,
+        Statement::RollbackTo(name) => write_two(text, "ROLLBACK TO ", name.as_text())?,
+        Statement::Savepoint(name) => write_two(text, "SAVEPOINT ", name.as_text())?,
+        Statement::Release(name) => write_two(text, "RELEASE ", name.as_text())?,
     }
-    Ok(Txt::from_string(text))
+    Ok(())
+}
+
+/// The words for BEGIN.
+fn begin_words(immediate: bool) -> &'static str
+    ensures { result.now ≡ begin_text immediate }
+{
+    if immediate { "BEGIN IMMEDIATE" } else { "BEGIN" }
 }
 
 /// Writes one text and another behind it.
@@ -57,7 +77,8 @@ fn write_create(alloc: Global, text: &mut String, table: &Txt, schema: &Schema) 
 
 /// Writes an INSERT.
 fn write_insert(text: &mut String, insert: &Insert) -> Result<(), AllocError>
-    ensures { OnOk result (string_bytes text.new ≡ string_bytes text.old ++ insert_text insert.now) }
+    ensures text { OnOk result (string_bytes text.new ≡ string_bytes text.old ++ insert_text insert.now) }
+    ensures held { OnOk result (AllByRecursion AreHeld insert.now.rows) }
 {
     text.push_str("INSERT INTO ")?;
     insert.table.write(text)?;
@@ -69,7 +90,8 @@ fn write_insert(text: &mut String, insert: &Insert) -> Result<(), AllocError>
 
 /// Writes an UPDATE.
 fn write_update(text: &mut String, update: &Update) -> Result<(), AllocError>
-    ensures { OnOk result (string_bytes text.new ≡ string_bytes text.old ++ update_text update.now) }
+    ensures text { OnOk result (string_bytes text.new ≡ string_bytes text.old ++ update_text update.now) }
+    ensures held { OnOk result (AllByRecursion IsHeldAssign update.now.sets × AllByRecursion IsHeldTerm update.now.wanted) }
 {
     text.push_str("UPDATE ")?;
     update.table.write(text)?;
@@ -80,7 +102,8 @@ fn write_update(text: &mut String, update: &Update) -> Result<(), AllocError>
 
 /// Writes a DELETE.
 fn write_delete(text: &mut String, delete: &Delete) -> Result<(), AllocError>
-    ensures { OnOk result (string_bytes text.new ≡ string_bytes text.old ++ delete_text delete.now) }
+    ensures text { OnOk result (string_bytes text.new ≡ string_bytes text.old ++ delete_text delete.now) }
+    ensures held { OnOk result (AllByRecursion IsHeldTerm delete.now.wanted) }
 {
     text.push_str("DELETE FROM ")?;
     delete.table.write(text)?;
@@ -89,7 +112,8 @@ fn write_delete(text: &mut String, delete: &Delete) -> Result<(), AllocError>
 
 /// Writes an EXPLAIN.
 fn write_explain(text: &mut String, select: &Select) -> Result<(), AllocError>
-    ensures { OnOk result (string_bytes text.new ≡ string_bytes text.old ++ (codes "EXPLAIN " ++ select_text select.now)) }
+    ensures text { OnOk result (string_bytes text.new ≡ string_bytes text.old ++ (codes "EXPLAIN " ++ select_text select.now)) }
+    ensures held { OnOk result (IsHeldSelect select.now) }
 {
     text.push_str("EXPLAIN ")?;
     write_select(text, select)
@@ -97,7 +121,8 @@ fn write_explain(text: &mut String, select: &Select) -> Result<(), AllocError>
 
 /// Writes a SELECT.
 fn write_select(text: &mut String, select: &Select) -> Result<(), AllocError>
-    ensures { OnOk result (string_bytes text.new ≡ string_bytes text.old ++ select_text select.now) }
+    ensures text { OnOk result (string_bytes text.new ≡ string_bytes text.old ++ select_text select.now) }
+    ensures held { OnOk result (IsHeldSelect select.now) }
 {
     text.push_str("SELECT ")?;
     write_items(text, &select.items)?;
@@ -120,7 +145,8 @@ fn write_items(text: &mut String, items: &Items) -> Result<(), AllocError>
 
 /// Writes the terms of WHERE, or nothing where there is none.
 fn write_where(text: &mut String, terms: &List<Constraint>) -> Result<(), AllocError>
-    ensures { OnOk result (string_bytes text.new ≡ string_bytes text.old ++ where_text terms.now) }
+    ensures text { OnOk result (string_bytes text.new ≡ string_bytes text.old ++ where_text terms.now) }
+    ensures held { OnOk result (AllByRecursion IsHeldTerm terms.now) }
 {
     if terms.is_empty() {
         return Ok(());
@@ -142,7 +168,8 @@ fn order_words(order: Order) -> &'static str
 
 /// Writes LIMIT with its value, or nothing where there is none.
 fn write_limit(text: &mut String, limit: &Option<Value>) -> Result<(), AllocError>
-    ensures { OnOk result (string_bytes text.new ≡ string_bytes text.old ++ limit_text limit.now) }
+    ensures text { OnOk result (string_bytes text.new ≡ string_bytes text.old ++ limit_text limit.now) }
+    ensures held { OnOk result (IsHeldLimit limit.now) }
 {
     match limit {
         None => Ok(()),

@@ -1,16 +1,19 @@
-ghost use Rattle.std.specs.Prelude.{◌≡◌, ◌<◌, ◌++◌, [], ◌∷◌, codes, slice_index, string_bytes, OnOk};
+ghost use Rattle.std.specs.Prelude.{◌≡◌, ◌<◌, FitsSigned, ◌++◌, [], ◌∷◌, codes, slice_index, string_bytes, OnOk};
 ghost use Rattle.std.specs.Fmt.{signed_decimal};
-ghost use Rattle.std.specs.Int.{w8, cast_signed};
+ghost use Rattle.std.specs.Int.{w8, w64, cast_signed};
+ghost use Rattle.std.specs.Str.{IsUtf8};
 ghost use Rattle.std.specs.List.{flat_map};
 ghost use Rattle.vec_literal.specs.Int8.{int8_text, elements_text};
 ghost use Rattle.vec_literal.specs.ValueTexts.{doubled, quoted, hex_byte, hex_text, blob_text, value_text};
+ghost use Rattle.vec_literal.specs.Held.{AreBytes, IsHeld};
 
 use std::alloc::AllocError;
 use vec_base::Value;
 
 /// Writes the value as a literal or a call.
 pub(crate) fn write_value(text: &mut String, value: &Value) -> Result<(), AllocError>
-    ensures { OnOk result (string_bytes text.new ≡ string_bytes text.old ++ value_text value.now) }
+    ensures text { OnOk result (string_bytes text.new ≡ string_bytes text.old ++ value_text value.now) }
+    ensures held { OnOk result (IsHeld value.now) }
 {
     match value {
         Value::Null => text.push_str("NULL"),
@@ -24,7 +27,8 @@ pub(crate) fn write_value(text: &mut String, value: &Value) -> Result<(), AllocE
 
 /// Writes a number in decimal.
 fn write_number(text: &mut String, number: i64) -> Result<(), AllocError>
-    ensures { OnOk result (string_bytes text.new ≡ string_bytes text.old ++ signed_decimal number) }
+    ensures text { OnOk result (string_bytes text.new ≡ string_bytes text.old ++ signed_decimal number) }
+    ensures held { OnOk result (FitsSigned w64 number) }
 {
     let mut buffer = itoa::Buffer::new();
     text.push_str(buffer.format(number))
@@ -32,7 +36,8 @@ fn write_number(text: &mut String, number: i64) -> Result<(), AllocError>
 
 /// Writes a text literal: the text in quotes, with each quote in it twice.
 fn write_text(text: &mut String, inside: &str) -> Result<(), AllocError>
-    ensures { OnOk result (string_bytes text.new ≡ string_bytes text.old ++ quoted inside.now) }
+    ensures text { OnOk result (string_bytes text.new ≡ string_bytes text.old ++ quoted inside.now) }
+    ensures held { OnOk result (IsUtf8 inside.now) }
 {
     text.push_str("'")?;
     write_doubled(text, inside)?;
@@ -54,7 +59,8 @@ fn write_doubled(text: &mut String, inside: &str) -> Result<(), AllocError>
 
 /// Writes bytes in hexadecimal digits, between two texts.
 fn write_blob(text: &mut String, before: &str, bytes: &[u8], behind: &str) -> Result<(), AllocError>
-    ensures { OnOk result (string_bytes text.new ≡ string_bytes text.old ++ (before.now ++ hex_text bytes.now ++ behind.now)) }
+    ensures text { OnOk result (string_bytes text.new ≡ string_bytes text.old ++ (before.now ++ hex_text bytes.now ++ behind.now)) }
+    ensures held { OnOk result (AreBytes bytes.now) }
 {
     text.push_str(before)?;
     write_hex(text, bytes)?;
@@ -84,7 +90,8 @@ fn hex_digit(number: u8) -> char
 
 /// Writes a vector of bytes as the call that makes it.
 fn write_int8(text: &mut String, vector: &[u8]) -> Result<(), AllocError>
-    ensures { OnOk result (string_bytes text.new ≡ string_bytes text.old ++ (codes "vec_int8('" ++ int8_text vector.now ++ codes "')")) }
+    ensures text { OnOk result (string_bytes text.new ≡ string_bytes text.old ++ (codes "vec_int8('" ++ int8_text vector.now ++ codes "')")) }
+    ensures held { OnOk result (AreBytes vector.now) }
 {
     text.push_str("vec_int8('[")?;
     write_elements(text, vector)?;
