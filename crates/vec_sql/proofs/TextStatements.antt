@@ -251,11 +251,15 @@ update_given chosen formed sets wanted =
       unused = plain.unused;
       counts = counted (statements.Update x.0 x.1.0 x.1.1) (omega arith) (omega (arith, each_length IsTerm x.1.1 chosen.wanted h.1.1, few));
       rules = refl;
-      means = (chosen, record {
-        table = sym h.0;
-        sets = each_more IsAssign (MeansAssign []) (λ g t k. k.means) x.1.0 chosen.sets h.1.0;
-        wanted = each_more IsTerm (MeansTerm []) (λ g t k. k.means) x.1.1 chosen.wanted h.1.1;
-      }, refl);
+      means = (
+        chosen,
+        record {
+          table = sym h.0;
+          sets = each_more IsAssign (MeansAssign []) (λ g t k. k.means) x.1.0 chosen.sets h.1.0;
+          wanted = each_more IsTerm (MeansTerm []) (λ g t k. k.means) x.1.1 chosen.wanted h.1.1;
+        },
+        refl,
+      );
     }))
     (give_second (of_word (codes "UPDATE") (codes "UPDATE") refl)
     (give_seq (give_known (λ (z : List ℕ). z ≡ chosen.table) refl (name_spelled chosen.table formed.table))

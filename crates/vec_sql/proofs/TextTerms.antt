@@ -44,9 +44,6 @@ pub both_good : {A : Type 0} (P : A → Type 0) (xs ys : List A) → AllByRecurs
 both_good P [] ys h k = k
 both_good P (x ∷ xs) ys h k = (h.0, both_good P xs ys h.1 k)
 
-
-
-
 pub none_plain : ArePlain []
 none_plain = record { fine = tt; unused = refl }
 

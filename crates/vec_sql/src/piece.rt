@@ -28,7 +28,11 @@ pub(crate) fn write_listed<P: Piece>(text: &mut String, pieces: &List<P>) -> Res
 }
 
 /// Writes the parts with the separator between them.
-pub(crate) fn write_separated<P: Piece>(text: &mut String, separator: &str, pieces: &[P]) -> Result<(), AllocError>
+pub(crate) fn write_separated<P: Piece>(
+    text: &mut String,
+    separator: &str,
+    pieces: &[P],
+) -> Result<(), AllocError>
     ensures text { OnOk result (string_bytes text.new ≡ string_bytes text.old ++ separated separator.now P.text_of pieces.now) }
     ensures held { OnOk result (AllByRecursion P.held pieces.now) }
 {
@@ -42,7 +46,11 @@ pub(crate) fn write_separated<P: Piece>(text: &mut String, separator: &str, piec
 }
 
 /// Writes each of the parts with the separator before it.
-fn write_behind<P: Piece>(text: &mut String, separator: &str, pieces: &[P]) -> Result<(), AllocError>
+fn write_behind<P: Piece>(
+    text: &mut String,
+    separator: &str,
+    pieces: &[P],
+) -> Result<(), AllocError>
     ensures text { OnOk result (string_bytes text.new ≡ string_bytes text.old ++ behind separator.now P.text_of pieces.now) }
     ensures held { OnOk result (AllByRecursion P.held pieces.now) }
 {

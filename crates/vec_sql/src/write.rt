@@ -10,8 +10,8 @@ use crate::piece::{Piece, write_listed, write_separated};
 use crate::write_value::write_value;
 use row_model::{Constraint, Delete, Insert, Items, Order, Schema, Select, Statement, Update};
 use std::alloc::{AllocError, Global};
-use vec0_columns::write_columns;
 use vec_base::{List, Memory, Txt, Value};
+use vec0_columns::write_columns;
 
 /// The canonical text of the statement. Where the statement is well formed and the text is not too long, reading the text
 /// without parameters gives the statement back.
@@ -51,7 +51,11 @@ fn write(alloc: Global, text: &mut String, statement: &Statement) -> Result<(), 
 fn begin_words(immediate: bool) -> &'static str
     ensures { result.now ≡ begin_text immediate }
 {
-    if immediate { "BEGIN IMMEDIATE" } else { "BEGIN" }
+    if immediate {
+        "BEGIN IMMEDIATE"
+    } else {
+        "BEGIN"
+    }
 }
 
 /// Writes one text and another behind it.
@@ -63,7 +67,12 @@ fn write_two(text: &mut String, first: &str, second: &str) -> Result<(), AllocEr
 }
 
 /// Writes a CREATE.
-fn write_create(alloc: Global, text: &mut String, table: &Txt, schema: &Schema) -> Result<(), Memory>
+fn write_create(
+    alloc: Global,
+    text: &mut String,
+    table: &Txt,
+    schema: &Schema,
+) -> Result<(), Memory>
     ensures { OnOk result (string_bytes text.new ≡ string_bytes text.old ++ (codes "CREATE VIRTUAL TABLE " ++ table.now ++ codes " USING vec0(" ++ canonical_columns schema.now ++ codes ")")) }
 {
     let columns = write_columns(alloc, schema)?;
@@ -179,3 +188,6 @@ fn write_limit(text: &mut String, limit: &Option<Value>) -> Result<(), AllocErro
         }
     }
 }
+
+#[cfg(test)]
+mod tests;
