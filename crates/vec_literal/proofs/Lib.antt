@@ -1,6 +1,7 @@
 pub mod Adding
 pub mod BitsLaws
 pub mod Decimals
+pub mod Doubling
 pub mod Enclosed
 pub mod Following
 pub mod Int8Complete
@@ -19,3 +20,4 @@ pub mod Runs
 pub mod Sorts
 pub mod Texts
 pub mod ValuesBefore
+pub mod Written

@@ -1,5 +1,3 @@
-pub mod Doubling
-pub mod Written
 pub mod ReadBack
 pub mod TextAdds
 pub mod TextLexemes

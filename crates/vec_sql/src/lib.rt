@@ -5,7 +5,6 @@ mod given;
 mod piece;
 mod pieces;
 mod write;
-mod write_value;
 
 pub use given::{Given, GivenAssign, GivenSelect, GivenStatement, GivenTerm, GivenTest, Group};
 pub use write::write_statement;

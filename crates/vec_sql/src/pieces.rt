@@ -5,9 +5,9 @@ ghost use Rattle.vec_literal.specs.Held.{IsHeld};
 ghost use Rattle.vec_sql.specs.Held.{AreHeld, IsHeldTest};
 
 use crate::piece::{Piece, write_listed};
-use crate::write_value::write_value;
 use row_model::{Assign, Constraint, Test};
 use std::alloc::AllocError;
+use vec_literal::write_value;
 use vec_base::{List, Op, Txt, Value};
 
 impl Piece for Txt {

@@ -7,9 +7,9 @@ ghost use Rattle.vec_sql.specs.Held.{AreHeld, IsHeldAssign, IsHeldTerm, IsHeldLi
 ghost use Rattle.vec_sql.specs.Reads.{SpellsStatement};
 
 use crate::piece::{Piece, write_listed, write_separated};
-use crate::write_value::write_value;
 use row_model::{Constraint, Delete, Insert, Items, Order, Schema, Select, Statement, Update};
 use std::alloc::{AllocError, Global};
+use vec_literal::write_value;
 use vec_base::{List, Memory, Txt, Value};
 use vec0_columns::write_columns;
 

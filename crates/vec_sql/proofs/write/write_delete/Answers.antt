@@ -1,6 +1,6 @@
 use Rattle.std.proofs.Common.{codes, ◌++◌}
 use Rattle.vec_sql.specs.Canonical.{where_text}
-use Rattle.vec_sql.proofs.Written.{written_more, written_last}
+use Rattle.vec_literal.proofs.Written.{written_more, written_last}
 use Rattle.vec_sql.proofs.write.write_delete.Goals as goal
 
 pub returns-clause-text : goal.returns-clause-text

@@ -1,8 +1,8 @@
 use Rattle.std.proofs.Common.{List, ℕ, ◌≡◌, ◌++◌, sym, subst, string_bytes}
 use Rattle.std.specs.Result.{OnOk}
-use Rattle.vec_sql.proofs.Doubling.{elements_by}
-use Rattle.vec_sql.proofs.Written.{written_last}
-use Rattle.vec_sql.proofs.write_value.write_elements.Goals as goal
+use Rattle.vec_literal.proofs.Int8Written.{elements_by}
+use Rattle.vec_literal.proofs.Written.{written_last}
+use Rattle.vec_literal.proofs.int8.write_elements.Goals as goal
 
 pub returns-in_ok-write_element-in-len1-up : goal.returns-in_ok-write_element-in-len1-up
 returns-in_ok-write_element-in-len1-up c =

@@ -1,8 +1,8 @@
 use Rattle.std.proofs.Common.{rules, arith, List, ℕ, ◌≡◌, ◌<◌, ◌++◌, [], ◌∷◌, ◌∙◌, ap, sym, string_bytes}
 use Rattle.std.proofs.lemmas.Str.Pattern.{split_once_first}
 use Rattle.vec_literal.specs.ValueTexts.{doubled}
-use Rattle.vec_sql.proofs.Doubling.{part_doubled, no_quote}
-use Rattle.vec_sql.proofs.write_value.write_doubled.Goals as goal
+use Rattle.vec_literal.proofs.Doubling.{part_doubled, no_quote}
+use Rattle.vec_literal.proofs.value.write_doubled.Goals as goal
 
 pub loop-before-preserved : goal.loop-before-preserved
 loop-before-preserved c =

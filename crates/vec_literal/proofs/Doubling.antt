@@ -1,12 +1,7 @@
--- Texts with each quote doubled, part by part, and the elements of vectors behind the first.
+-- Texts with each quote doubled, part by part.
 use Rattle.std.proofs.Common.{◌≡◌, ℕ, suc, ◌+◌, ◌-◌, ◌<◌, ◌≤◌, get_or, Bool, true, false, not, List, [], ◌∷◌, ◌++◌, length, take, drop, cond, ◌==◌, refl, sym, ◌∙◌, ap, subst, arith, append_assoc, inl, inr, eq-eqb}
-use Rattle.std.specs.Fmt.{signed_decimal}
-use Rattle.std.specs.Int.{w8, cast_signed}
-use Rattle.std.specs.List.{flat_map, position_or_len, before_first, after_first}
+use Rattle.std.specs.List.{position_or_len, before_first, after_first}
 use Rattle.std.proofs.lemmas.Bool.{cond-true, cond-false, cases_Bool, eqb-true}
-use Rattle.std.proofs.lemmas.List.{append-nil}
-use Rattle.std.proofs.Math.Seq.{take-length}
-use Rattle.vec_literal.specs.Int8.{elements_text}
 use Rattle.vec_literal.specs.ValueTexts.{doubled}
 
 abbrev is_quote : ℕ → Bool
@@ -56,16 +51,3 @@ part_doubled start left before after within first second =
     ∙ ap (λ (z : List ℕ). start ++ (z ++ 39 ∷ 39 ∷ doubled after)) first
     ∙ ap (λ (z : List ℕ). start ++ (before_first is_quote left ++ 39 ∷ 39 ∷ doubled z)) second
     ∙ ap (λ (z : List ℕ). start ++ z) (sym (quote_first left within))
-
--- the elements of a vector, by the first
-pub elements_whole : (b : ℕ) (bs : List ℕ) → elements_text (b ∷ bs) ≡ signed_decimal (cast_signed w8 b) ++ flat_map (λ c. 44 ∷ signed_decimal (cast_signed w8 c)) bs
-elements_whole b [] = sym (append-nil (signed_decimal (cast_signed w8 b)))
-elements_whole b (c ∷ cs) = ap (λ (z : List ℕ). signed_decimal (cast_signed w8 b) ++ 44 ∷ z) (elements_whole c cs)
-
--- the same of a vector with an element
-pub elements_by : (vector : List ℕ) → 1 ≤ length vector →
-    elements_text vector ≡ signed_decimal (cast_signed w8 (get_or vector 0 0)) ++ flat_map (λ c. 44 ∷ signed_decimal (cast_signed w8 c)) (take (length vector - 1) (drop 1 vector))
-elements_by [] some = absurd (omega arith)
-elements_by (b ∷ bs) some =
-    let count : length (b ∷ bs) - 1 ≡ length bs = omega arith in
-    elements_whole b bs ∙ ap (λ (z : List ℕ). signed_decimal (cast_signed w8 b) ++ flat_map (λ c. 44 ∷ signed_decimal (cast_signed w8 c)) z) (sym (ap (λ (n : ℕ). take n bs) count ∙ take-length bs))

@@ -1,17 +1,17 @@
-ghost use Rattle.std.specs.Prelude.{◌≡◌, ◌<◌, FitsSigned, ◌++◌, [], ◌∷◌, codes, slice_index, string_bytes, OnOk};
+ghost use Rattle.std.specs.Prelude.{◌≡◌, ◌<◌, FitsSigned, ◌++◌, codes, slice_index, string_bytes, OnOk};
 ghost use Rattle.std.specs.Fmt.{signed_decimal};
-ghost use Rattle.std.specs.Int.{w8, w64, cast_signed};
+ghost use Rattle.std.specs.Int.{w64};
 ghost use Rattle.std.specs.Str.{IsUtf8};
-ghost use Rattle.std.specs.List.{flat_map};
-ghost use Rattle.vec_literal.specs.Int8.{int8_text, elements_text};
-ghost use Rattle.vec_literal.specs.ValueTexts.{doubled, quoted, hex_byte, hex_text, blob_text, value_text};
+ghost use Rattle.vec_literal.specs.Int8.{int8_text};
+ghost use Rattle.vec_literal.specs.ValueTexts.{doubled, quoted, hex_text, value_text};
 ghost use Rattle.vec_literal.specs.Held.{AreBytes, IsHeld};
 
+use crate::int8::write_vector;
 use std::alloc::AllocError;
 use vec_base::Value;
 
-/// Writes the value as a literal or a call.
-pub(crate) fn write_value(text: &mut String, value: &Value) -> Result<(), AllocError>
+/// Writes the value behind the text, as the literal or the call that a statement has for it.
+pub fn write_value(text: &mut String, value: &Value) -> Result<(), AllocError>
     ensures text { OnOk result (string_bytes text.new ≡ string_bytes text.old ++ value_text value.now) }
     ensures held { OnOk result (IsHeld value.now) }
 {
@@ -20,7 +20,7 @@ pub(crate) fn write_value(text: &mut String, value: &Value) -> Result<(), AllocE
         Value::Int(number) => write_number(text, *number),
         Value::Text(inside) => write_text(text, inside.as_text()),
         Value::Blob(bytes) => write_blob(text, "X'", bytes.as_slice(), "'"),
-        Value::Int8(vector) => write_int8(text, vector.as_slice()),
+        Value::Int8(vector) => write_int8_call(text, vector.as_slice()),
         Value::Bits(bytes) => write_blob(text, "vec_bit(X'", bytes.as_slice(), "')"),
     }
 }
@@ -89,43 +89,47 @@ fn hex_digit(number: u8) -> char
 }
 
 /// Writes a vector of bytes as the call that makes it.
-fn write_int8(text: &mut String, vector: &[u8]) -> Result<(), AllocError>
+fn write_int8_call(text: &mut String, vector: &[u8]) -> Result<(), AllocError>
     ensures text { OnOk result (string_bytes text.new ≡ string_bytes text.old ++ (codes "vec_int8('" ++ int8_text vector.now ++ codes "')")) }
     ensures held { OnOk result (AreBytes vector.now) }
 {
-    text.push_str("vec_int8('[")?;
-    write_elements(text, vector)?;
-    text.push_str("]')")
+    text.push_str("vec_int8('")?;
+    write_vector(text, vector)?;
+    text.push_str("')")
 }
 
-/// Writes the elements of a vector with commas between them.
-fn write_elements(text: &mut String, vector: &[u8]) -> Result<(), AllocError>
-    ensures { OnOk result (string_bytes text.new ≡ string_bytes text.old ++ elements_text vector.now) }
-{
-    match vector {
-        [] => Ok(()),
-        [first, others @ ..] => {
-            write_element(text, *first)?;
-            write_more_elements(text, others)
+#[cfg(test)]
+mod tests {
+    use super::*;
+    use std::alloc::Global;
+    use vec_base::{Bytes, Memory, Txt};
+
+    /// The texts of these values, one behind the other.
+    fn written(alloc: Global, values: &[Value]) -> Result<Txt, Memory> {
+        let mut text = String::new(alloc);
+        for value in values {
+            write_value(&mut text, value)?;
+            text.push_str(" ")?;
         }
+        Ok(Txt::from_string(text))
     }
-}
 
-/// Writes the elements behind the first one, each with a comma before it.
-fn write_more_elements(text: &mut String, others: &[u8]) -> Result<(), AllocError>
-    ensures { OnOk result (string_bytes text.new ≡ string_bytes text.old ++ flat_map (λ b. 44 ∷ signed_decimal (cast_signed w8 b)) others.now) }
-{
-    for element in others {
-        text.push_str(",")?;
-        write_element(text, *element)?;
+    /// Whether one value of each kind is written as it should be.
+    fn all_written(alloc: Global) -> Result<bool, Memory> {
+        let values = [
+            Value::Null,
+            Value::Int(-7),
+            Value::Text(Txt::from_text(alloc, "'it's")?),
+            Value::Blob(Bytes::from_slice(alloc, &[10, 255])?),
+            Value::Int8(Bytes::from_slice(alloc, &[1, 254])?),
+            Value::Bits(Bytes::from_slice(alloc, &[15])?),
+        ];
+        let text = "NULL -7 '''it''s' X'0AFF' vec_int8('[1,-2]') vec_bit(X'0F') ";
+        Ok(written(alloc, &values)?.as_text() == text)
     }
-    Ok(())
-}
 
-/// Writes an element of a vector in decimal.
-fn write_element(text: &mut String, element: u8) -> Result<(), AllocError>
-    ensures { OnOk result (string_bytes text.new ≡ string_bytes text.old ++ signed_decimal (cast_signed w8 element)) }
-{
-    let mut buffer = itoa::Buffer::new();
-    text.push_str(buffer.format(element.cast_signed()))
+    #[test]
+    fn values_are_written(rt: HostRuntime) {
+        assert!(rt; all_written(rt.alloc()) == Ok(true));
+    }
 }

@@ -3,7 +3,7 @@ use Rattle.std.proofs.Common.{◌≡◌, ◌∷◌, ◌++◌, take, string_bytes
 use Rattle.std.specs.Fmt.{signed_decimal}
 use Rattle.std.specs.Int.{w8, cast_signed}
 use Rattle.std.specs.List.{flat_map}
-use Rattle.vec_sql.proofs.write_value.write_more_elements.Given as goal
+use Rattle.vec_literal.proofs.int8.write_more_elements.Given as goal
 
 abbrev pub invariant-loop-element : goal.invariant-loop-element
 invariant-loop-element l =

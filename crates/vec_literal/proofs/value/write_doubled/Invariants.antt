@@ -3,7 +3,7 @@ use Rattle.std.proofs.Common.{◌≡◌, ◌++◌, length, string_bytes}
 use denote.Text.{Utf8}
 use denote.Shadow.{shadow}
 use Rattle.vec_literal.specs.ValueTexts.{doubled}
-use Rattle.vec_sql.proofs.write_value.write_doubled.Given as goal
+use Rattle.vec_literal.proofs.value.write_doubled.Given as goal
 
 abbrev pub invariant-loop-before : goal.invariant-loop-before
 invariant-loop-before l = shadow (Utf8 l.left) × (string_bytes l.text ++ doubled l.left ≡ string_bytes l.fn.text ++ doubled l.fn.inside)
