@@ -1,9 +1,7 @@
 -- The text that is written for a well-formed statement spells the statement.
 use Rattle.std.proofs.Common.{◌≡◌, ℕ, ◌≤◌, true, List, [], length, map, refl, sym, ◌∙◌, ap, subst}
-use Rattle.std.specs.List.{AllByRecursion}
-use Rattle.vec_base.specs.declared.value.Value.{Value}
 use Rattle.vec_literal.specs.Lexemes.{Lexeme, lexeme_of, lexemes}
-use Rattle.vec_literal.specs.Tokens.{Token, tokens}
+use Rattle.vec_literal.specs.Tokens.{tokens}
 use Rattle.vec_literal.proofs.Adding.{Adds, has_no_parameter, adds_whole}
 use Rattle.vec_literal.proofs.ValuesBefore.{ends_value}
 use Rattle.grammar.specs.Parameters.{numbered_tokens}
@@ -13,10 +11,10 @@ use Rattle.row_model.specs.WellFormed.{IsWellFormed}
 use Rattle.vec_sql.specs.Canonical.{statement_text}
 use Rattle.vec_sql.specs.Givens.{Use}
 use Rattle.vec_sql.specs.Held.{IsHeldStatement}
-use Rattle.vec_sql.specs.Reads.{SpellsStatement, ParametersFit, IsTaken, greatest}
+use Rattle.vec_sql.specs.Reads.{SpellsStatement, ParametersFit}
 use Rattle.vec_sql.proofs.TextLexemes.{statement_lexemes}
 use Rattle.vec_sql.proofs.TextAdds.{adds_statement}
-use Rattle.vec_sql.proofs.TextStatements.{IsStatement, statement_given}
+use Rattle.vec_sql.proofs.TextStatements.{statement_given}
 
 -- no parameter is used, and none is given
 none_fit : (all : List Use) → all ≡ [] → ParametersFit [] all

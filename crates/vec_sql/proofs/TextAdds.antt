@@ -1,10 +1,8 @@
 -- The text of a well-formed statement has the lexemes that one expects of it.
-use Rattle.std.proofs.Common.{◌≡◌, ℕ, Bool, true, false, not, ◌&&◌, List, [], ◌∷◌, ◌++◌, codes, length, map, Option, Some, None, refl, sym, ◌∙◌, ap, subst, append_assoc}
-use Rattle.std.specs.Prelude.{nat_le, ⊤}
+use Rattle.std.proofs.Common.{◌≡◌, ℕ, Bool, true, false, not, ◌&&◌, List, [], ◌∷◌, ◌++◌, codes, length, map, Option, Some, None, refl, ◌∙◌, ap, append_assoc}
+use Rattle.std.specs.Prelude.{nat_le}
 use Rattle.std.proofs.lemmas.Bool.{and_parts, and_from}
-use Rattle.std.proofs.lemmas.List.{append-nil}
 use Rattle.std.proofs.lemmas.List.Folds.{list_all-append}
-use Rattle.std.specs.Char.{is_ascii_digit}
 use Rattle.std.specs.List.{list_all, flat_map, AllByRecursion}
 use Rattle.vec_base.proofs.RankLaws.{each-map}
 use Rattle.vec_base.specs.Words.{is_small_word, is_name, is_reserved}
@@ -12,11 +10,10 @@ use Rattle.vec_base.specs.declared.value.Op.{Op}
 use Rattle.vec_base.specs.declared.value.Op.TheVariants.{Eq, Ne, Lt, Le, Gt, Ge}
 use Rattle.vec_base.specs.declared.value.Value.{Value}
 use Rattle.vec_literal.specs.Held.{IsHeld}
-use Rattle.vec_literal.specs.Lexemes.{Lexeme, lexemes, word_lexeme, mark_lexeme}
+use Rattle.vec_literal.specs.Lexemes.{Lexeme, word_lexeme, mark_lexeme}
 use Rattle.vec_literal.specs.Tokens.{is_word_text}
 use Rattle.vec_literal.specs.ValueTexts.{value_text}
-use Rattle.vec_literal.proofs.Adding.{Adds, anything, has_no_parameter, is_parameter, adds_nothing, adds_then, adds_as, adds_whole, adds_before, adds_space, adds_word, adds_words, adds_lone, adds_mark, adds_pair, adds_value, adds_name}
-use Rattle.vec_literal.proofs.Following.{stops}
+use Rattle.vec_literal.proofs.Adding.{Adds, anything, has_no_parameter, is_parameter, adds_nothing, adds_then, adds_as, adds_before, adds_space, adds_word, adds_words, adds_lone, adds_mark, adds_pair, adds_value, adds_name}
 use Rattle.vec_literal.proofs.ValuesBefore.{value_lexemes, ends_value, ended_number}
 use Rattle.row_model.specs.declared.schema.Column.{Column}
 use Rattle.row_model.specs.declared.schema.Kind.{Kind}
@@ -38,12 +35,12 @@ use Rattle.row_model.specs.declared.statement.Test.TheVariants.{Compare, Member,
 use Rattle.row_model.specs.declared.statement.Update.{Update as UpdateRows}
 use Rattle.row_model.specs.Canonical.{canonical_columns}
 use Rattle.row_model.specs.Schemas.{IsValidSchema}
-use Rattle.row_model.specs.WellFormed.{IsWellFormed, IsWellFormedInsert, IsWellFormedUpdate, IsWellFormedDelete, IsWellFormedSelect, is_term, is_whole_test, are_terms, are_items, is_filled}
+use Rattle.row_model.specs.WellFormed.{IsWellFormed, IsWellFormedInsert, IsWellFormedUpdate, IsWellFormedDelete, IsWellFormedSelect, is_term, is_whole_test, are_items, is_filled}
 use Rattle.vec0_columns.specs.CanonicalLexemes.{declared_lexemes, column_lexemes, canonical_lexemes}
 use Rattle.vec0_columns.proofs.Written.{small_word, canonical_before}
 use Rattle.vec_sql.specs.Canonical.{behind, separated, listed, name_text, group_text, op_text, test_text, term_text, where_text, assign_text, items_text, order_text, limit_text, select_text, insert_text, update_text, delete_text, begin_text, statement_text}
 use Rattle.vec_sql.specs.Held.{AreHeld, IsHeldTest, IsHeldTerm, IsHeldAssign, IsHeldLimit, IsHeldSelect, IsHeldStatement}
-use Rattle.vec_sql.proofs.TextLexemes.{behind_lexemes, separated_lexemes, listed_lexemes, name_lexemes, group_lexemes, test_lexemes, term_lexemes, where_lexemes, assign_lexemes, items_lexemes, order_lexemes, limit_lexemes, tail_lexemes, select_lexemes, create_lexemes, insert_lexemes, update_lexemes, delete_lexemes, begin_lexemes, statement_lexemes}
+use Rattle.vec_sql.proofs.TextLexemes.{behind_lexemes, separated_lexemes, listed_lexemes, name_lexemes, group_lexemes, test_lexemes, term_lexemes, where_lexemes, assign_lexemes, items_lexemes, order_lexemes, limit_lexemes, select_lexemes, create_lexemes, insert_lexemes, update_lexemes, delete_lexemes, begin_lexemes, statement_lexemes}
 
 -- ---- words and names
 

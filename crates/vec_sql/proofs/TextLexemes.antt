@@ -1,7 +1,6 @@
 -- The lexemes of the text of a statement.
 use Rattle.std.specs.Prelude.{ℕ, List, [], ◌∷◌, ◌++◌, codes, Option, Some, None, Bool, true, false}
 use Rattle.std.specs.List.{flat_map}
-use Rattle.vec_base.specs.declared.value.Op.{Op}
 use Rattle.vec_base.specs.declared.value.Value.{Value}
 use Rattle.vec_literal.specs.Lexemes.{Lexeme, word_lexeme, mark_lexeme}
 use Rattle.vec_literal.proofs.ValuesBefore.{value_lexemes}

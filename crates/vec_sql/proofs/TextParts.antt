@@ -1,11 +1,6 @@
 -- The lexemes of a statement's text spell it, part by part.
-use Rattle.std.proofs.Common.{◌≡◌, ℕ, suc, ◌≤◌, Bool, true, false, ◌&&◌, List, [], ◌∷◌, ◌++◌, codes, length, map, Option, Some, None, ◌==◌, refl, sym, ◌∙◌, ap, subst, append_assoc}
-use Rattle.std.specs.Prelude.{nat_le, ⊤}
-use Rattle.std.proofs.lemmas.Bool.{and_parts}
-use Rattle.std.specs.List.{list_all, flat_map, AllByRecursion}
-use Rattle.vec_base.specs.Words.{is_name}
-use Rattle.vec_base.specs.declared.value.Op.{Op}
-use Rattle.vec_base.specs.declared.value.Op.TheVariants as ops
+use Rattle.std.proofs.Common.{◌≡◌, ℕ, suc, true, List, [], ◌∷◌, ◌++◌, codes, length, refl, sym, ◌∙◌, ap, subst}
+use Rattle.std.specs.List.{flat_map, AllByRecursion}
 use Rattle.vec_base.specs.declared.value.Value.{Value}
 use Rattle.vec_base.specs.declared.value.Value.TheVariants as values
 use Rattle.vec_literal.specs.Held.{IsHeld}
@@ -14,30 +9,18 @@ use Rattle.vec_literal.specs.Lexemes.{Lexeme, word_lexeme, mark_lexeme, text_lex
 use Rattle.vec_literal.specs.ValueTexts.{quoted, blob_text}
 use Rattle.vec_literal.proofs.Int8Written.{bytes_spell}
 use Rattle.vec_literal.proofs.LiteralsBefore.{AllBytes, signed_lexemes}
-use Rattle.vec_literal.proofs.ValuesBefore.{value_lexemes, vector_lexemes, all_bytes, small_number}
-use Rattle.grammar.specs.Grammar.{Part, seq, alt, opt, many, means, ◌▸◌, ◌◂◌, a_word, a_mark, a_name, a_text, a_placed_text, a_blob, a_signed_number}
-use Rattle.grammar.proofs.Lexemes.{LexemesSpell, of_means, of_left, of_right, of_word, of_mark}
-use Rattle.grammar.proofs.LexemesGive.{LexemesGive, give_known, give_more, give_seq, give_means, give_second, give_first, give_left, give_right, give_nothing, give_another}
-use Rattle.grammar.proofs.LiteralLexemes.{of_text, of_blob, of_signed_number, give_placed_text, give_placed_mark}
-use Rattle.row_model.specs.declared.statement.Assign.{Assign}
-use Rattle.row_model.specs.declared.statement.Constraint.{Constraint}
-use Rattle.row_model.specs.declared.statement.Test.{Test}
-use Rattle.row_model.specs.declared.statement.Test.TheVariants as asked
-use Rattle.row_model.specs.WellFormed.{is_filled, is_whole_test}
-use Rattle.vec0_columns.proofs.RoundTrip.{name_spelled}
+use Rattle.vec_literal.proofs.ValuesBefore.{value_lexemes, all_bytes, small_number}
+use Rattle.grammar.specs.Grammar.{Part, seq, many, means, ◌▸◌, a_word, a_mark, a_text, a_blob, a_signed_number}
+use Rattle.grammar.proofs.Lexemes.{LexemesSpell, of_means, of_word, of_mark}
+use Rattle.grammar.proofs.LexemesGive.{LexemesGive, give_known, give_seq, give_means, give_second, give_first, give_left, give_right, give_nothing, give_another}
+use Rattle.grammar.proofs.LiteralLexemes.{of_text, of_blob, of_signed_number, give_placed_text}
+use Rattle.row_model.specs.WellFormed.{is_filled}
 use Rattle.vec_sql.specs.declared.given.Given.{Given}
 use Rattle.vec_sql.specs.declared.given.Given.TheVariants as givens
-use Rattle.vec_sql.specs.declared.given.Group.{Group}
-use Rattle.vec_sql.specs.declared.given.GivenAssign.{GivenAssign}
-use Rattle.vec_sql.specs.declared.given.GivenTest.{GivenTest}
-use Rattle.vec_sql.specs.declared.given.GivenTest.TheVariants as tests
-use Rattle.vec_sql.specs.declared.given.GivenTerm.{GivenTerm}
-use Rattle.vec_sql.specs.Canonical.{op_text}
-use Rattle.vec_sql.specs.Givens.{concerns_of, uses_of, Use, Concern, in_test}
-use Rattle.vec_sql.specs.Held.{AreHeld, IsHeldTest, IsHeldTerm, IsHeldAssign}
-use Rattle.vec_sql.specs.Reads.{IsFine, Each, MeansValue, MeansTest, MeansTerm, MeansAssign}
-use Rattle.vec_sql.specs.Statements.{list_of, in_parentheses, word_for, mark_for, vec_int8, vec_bit, value, group, op, term_of, comparison, member, match_of, term, assignment}
-use Rattle.vec_sql.proofs.TextLexemes.{behind_lexemes, separated_lexemes, listed_lexemes, name_lexemes, group_lexemes, test_lexemes, term_lexemes, assign_lexemes}
+use Rattle.vec_sql.specs.Givens.{concerns_of, uses_of}
+use Rattle.vec_sql.specs.Reads.{IsFine, Each, MeansValue}
+use Rattle.vec_sql.specs.Statements.{list_of, in_parentheses, vec_int8, vec_bit, value}
+use Rattle.vec_sql.proofs.TextLexemes.{behind_lexemes, separated_lexemes, listed_lexemes}
 
 -- ---- lists
 

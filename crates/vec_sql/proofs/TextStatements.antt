@@ -1,16 +1,13 @@
 -- The lexemes of a statement's text spell it.
-use Rattle.std.proofs.Common.{◌≡◌, ℕ, suc, ◌≤◌, ◌<◌, Bool, true, false, ◌&&◌, List, [], ◌∷◌, ◌++◌, codes, length, Option, Some, None, ◌==◌, refl, sym, ◌∙◌, ap, subst, arith, append_assoc, eqb-true}
-use Rattle.std.specs.Prelude.{nat_le, nat_lt, if◌then◌else◌, ⊤}
+use Rattle.std.proofs.Common.{◌≡◌, ℕ, ◌≤◌, ◌<◌, Bool, true, false, ◌&&◌, List, [], ◌∷◌, ◌++◌, codes, length, Option, Some, None, ◌==◌, refl, sym, ◌∙◌, ap, subst, arith, append_assoc, eqb-true}
+use Rattle.std.specs.Prelude.{nat_le, nat_lt, if◌then◌else◌}
 use Rattle.std.proofs.lemmas.Bool.{and_parts, leb-true, le-ltb, cond-false}
-use Rattle.std.proofs.lemmas.Grind.{flat_map-append}
 use Rattle.std.proofs.lemmas.List.{append-nil}
 use Rattle.std.specs.List.{list_all, flat_map, AllByRecursion}
 use Rattle.vec_base.specs.Words.{is_name}
 use Rattle.vec_base.specs.declared.value.Value.{Value}
-use Rattle.vec_literal.specs.Held.{IsHeld}
 use Rattle.vec_literal.specs.Lexemes.{Lexeme, word_lexeme, mark_lexeme}
-use Rattle.vec_literal.proofs.ValuesBefore.{value_lexemes}
-use Rattle.grammar.specs.Grammar.{Part, seq, alt, opt, many, means, ◌▸◌, ◌◂◌, a_word, a_mark, a_name}
+use Rattle.grammar.specs.Grammar.{Part, seq, alt, opt, means, ◌▸◌, ◌◂◌, a_word, a_mark, a_name}
 use Rattle.grammar.specs.Reading.{or_default}
 use Rattle.grammar.proofs.Lexemes.{LexemesSpell, of_seq, of_means, of_second, of_first, of_left, of_right, of_none, of_some, of_word, of_mark}
 use Rattle.grammar.proofs.LexemesGive.{LexemesGive, give_known, give_more, give_seq, give_means, give_second, give_first, give_left, give_right, give_none, give_some}
@@ -28,7 +25,6 @@ use Rattle.row_model.specs.declared.statement.Update.{Update as UpdateRows}
 use Rattle.row_model.specs.Schemas.{IsValidSchema}
 use Rattle.row_model.specs.WellFormed.{IsWellFormed, IsWellFormedInsert, IsWellFormedUpdate, IsWellFormedDelete, IsWellFormedSelect, is_filled, is_term, are_items}
 use Rattle.vec0_columns.specs.CanonicalLexemes.{canonical_lexemes}
-use Rattle.vec0_columns.specs.Columns.{columns, schema_of}
 use Rattle.vec0_columns.specs.Parts.{parts_of}
 use Rattle.vec0_columns.proofs.RoundTrip.{name_spelled, canonical_spelled, schema_back, no_fault}
 use Rattle.vec_sql.specs.declared.given.Given.{Given}
@@ -36,11 +32,11 @@ use Rattle.vec_sql.specs.declared.given.Group.{Group}
 use Rattle.vec_sql.specs.declared.given.GivenSelect.{GivenSelect}
 use Rattle.vec_sql.specs.declared.given.GivenStatement.{GivenStatement}
 use Rattle.vec_sql.specs.declared.given.GivenStatement.TheVariants as statements
-use Rattle.vec_sql.specs.Givens.{concerns_of, uses_of, in_limit, in_select, in_groups, in_terms, in_sets, group_concerns, uses, item_count, items_in, terms_in}
+use Rattle.vec_sql.specs.Givens.{concerns_of, in_limit, in_select, in_groups, in_terms, in_sets, group_concerns, uses, item_count, items_in, terms_in}
 use Rattle.vec_sql.specs.Held.{AreHeld, IsHeldTerm, IsHeldAssign, IsHeldLimit, IsHeldSelect, IsHeldStatement}
-use Rattle.vec_sql.specs.Reads.{IsFine, Each, EachOption, MeansValue, MeansTerm, MeansAssign, MeansGroup, MeansSelect, MeansInsert, MeansUpdate, MeansDelete, Means, AllFine, count_fault, rule_fault}
-use Rattle.vec_sql.specs.Statements.{list_of, in_parentheses, word_for, mark_for, or_none, may_say, value, group, where_part, by_distance, by_rowid, order, items_part, limit, select, create, drop_table, insert, assignment, update, delete, explain, begin, commit, rollback_to, rollback, savepoint, release, body, statement}
-use Rattle.vec_sql.proofs.TextLexemes.{listed_lexemes, name_lexemes, group_lexemes, where_lexemes, assign_lexemes, items_lexemes, order_lexemes, limit_lexemes, tail_lexemes, select_lexemes, create_lexemes, insert_lexemes, update_lexemes, delete_lexemes, begin_lexemes, statement_lexemes}
+use Rattle.vec_sql.specs.Reads.{IsFine, Each, EachOption, MeansValue, MeansTerm, MeansAssign, MeansGroup, MeansSelect, Means, AllFine, count_fault, rule_fault}
+use Rattle.vec_sql.specs.Statements.{list_of, word_for, may_say, group, by_distance, by_rowid, order, items_part, limit, select, create, drop_table, insert, update, delete, explain, begin, commit, rollback_to, rollback, savepoint, release, body, statement}
+use Rattle.vec_sql.proofs.TextLexemes.{listed_lexemes, name_lexemes, group_lexemes, items_lexemes, order_lexemes, limit_lexemes, select_lexemes, create_lexemes, insert_lexemes, update_lexemes, delete_lexemes, begin_lexemes, statement_lexemes}
 use Rattle.vec_sql.proofs.TextParts.{each_more, each_length, each_same, AllGive, list_given, ArePlain, StandsFor, value_given}
 use Rattle.vec_sql.proofs.TextTerms.{both_good, none_plain, both_plain, values_plain, values_mean, IsTerm, where_given, terms_plain, IsAssign, sets_given, sets_plain, IsRow, row_given}
 

@@ -1,6 +1,5 @@
 -- The lexemes of terms, assignments and rows spell them.
-use Rattle.std.proofs.Common.{◌≡◌, ℕ, Bool, true, false, ◌&&◌, List, [], ◌∷◌, ◌++◌, codes, length, ◌==◌, refl, sym, ◌∙◌, ap, subst}
-use Rattle.std.specs.Prelude.{Option, Some, None, ⊤}
+use Rattle.std.proofs.Common.{◌≡◌, ℕ, true, List, [], ◌∷◌, ◌++◌, codes, refl, sym, ◌∙◌, ap, subst}
 use Rattle.std.proofs.lemmas.Bool.{and_parts}
 use Rattle.std.proofs.lemmas.Grind.{flat_map-append}
 use Rattle.std.specs.List.{list_all, flat_map, AllByRecursion}
@@ -10,12 +9,12 @@ use Rattle.vec_base.specs.declared.value.Op.{Op}
 use Rattle.vec_base.specs.declared.value.Op.TheVariants as ops
 use Rattle.vec_base.specs.declared.value.Value.{Value}
 use Rattle.vec_literal.specs.Held.{IsHeld}
-use Rattle.vec_literal.specs.Lexemes.{Lexeme, word_lexeme, mark_lexeme}
+use Rattle.vec_literal.specs.Lexemes.{word_lexeme, mark_lexeme}
 use Rattle.vec_literal.proofs.ValuesBefore.{value_lexemes}
-use Rattle.grammar.specs.Grammar.{Part, seq, alt, opt, many, means, ◌▸◌, ◌◂◌, a_word, a_mark, a_name}
+use Rattle.grammar.specs.Grammar.{Part, a_word, a_mark}
 use Rattle.grammar.specs.Reading.{or_default}
 use Rattle.grammar.proofs.Lexemes.{LexemesSpell, of_means, of_left, of_right, of_word, of_mark}
-use Rattle.grammar.proofs.LexemesGive.{LexemesGive, give_known, give_more, give_seq, give_means, give_second, give_left, give_right, give_none, give_some}
+use Rattle.grammar.proofs.LexemesGive.{LexemesGive, give_known, give_seq, give_means, give_second, give_left, give_right, give_none, give_some}
 use Rattle.grammar.proofs.LiteralLexemes.{give_placed_mark}
 use Rattle.row_model.specs.declared.statement.Assign.{Assign}
 use Rattle.row_model.specs.declared.statement.Constraint.{Constraint}
@@ -33,8 +32,8 @@ use Rattle.vec_sql.specs.Canonical.{op_text}
 use Rattle.vec_sql.specs.Givens.{concerns_of, uses_of, in_test, in_terms, in_sets}
 use Rattle.vec_sql.specs.Held.{AreHeld, IsHeldTest, IsHeldTerm, IsHeldAssign}
 use Rattle.vec_sql.specs.Reads.{IsFine, Each, MeansValue, MeansTest, MeansTerm, MeansAssign}
-use Rattle.vec_sql.specs.Statements.{list_of, mark_for, or_none, value, group, op, term_of, comparison, member, match_of, term, where_part, assignment}
-use Rattle.vec_sql.proofs.TextLexemes.{listed_lexemes, name_lexemes, group_lexemes, test_lexemes, term_lexemes, where_lexemes, assign_lexemes}
+use Rattle.vec_sql.specs.Statements.{list_of, or_none, value, group, op, term_of, comparison, member, match_of, term, where_part, assignment}
+use Rattle.vec_sql.proofs.TextLexemes.{listed_lexemes, group_lexemes, test_lexemes, term_lexemes, where_lexemes, assign_lexemes}
 use Rattle.vec_sql.proofs.TextParts.{each_more, AllGive, separated_given, list_given, parentheses_given, ArePlain, StandsFor, value_given}
 
 -- ---- what is plain

@@ -7,8 +7,8 @@ ghost use Rattle.vec_sql.specs.Held.{AreHeld, IsHeldTest};
 use crate::piece::{Piece, write_listed};
 use row_model::{Assign, Constraint, Test};
 use std::alloc::AllocError;
-use vec_literal::write_value;
 use vec_base::{List, Op, Txt, Value};
+use vec_literal::write_value;
 
 impl Piece for Txt {
     ghost use Rattle.vec_sql.specs.Canonical.{name_text};

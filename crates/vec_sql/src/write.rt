@@ -9,8 +9,8 @@ ghost use Rattle.vec_sql.specs.Reads.{SpellsStatement};
 use crate::piece::{Piece, write_listed, write_separated};
 use row_model::{Constraint, Delete, Insert, Items, Order, Schema, Select, Statement, Update};
 use std::alloc::{AllocError, Global};
-use vec_literal::write_value;
 use vec_base::{List, Memory, Txt, Value};
+use vec_literal::write_value;
 use vec0_columns::write_columns;
 
 /// The canonical text of the statement. Where the statement is well formed and the text is not too long, reading the text

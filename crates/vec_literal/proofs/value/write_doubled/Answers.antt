@@ -1,4 +1,4 @@
-use Rattle.std.proofs.Common.{rules, arith, List, ℕ, ◌≡◌, ◌<◌, ◌++◌, [], ◌∷◌, ◌∙◌, ap, sym, string_bytes}
+use Rattle.std.proofs.Common.{rules, arith, List, ℕ, ◌≡◌, ◌++◌, [], ◌∷◌, ◌∙◌, ap, sym, string_bytes}
 use Rattle.std.proofs.lemmas.Str.Pattern.{split_once_first}
 use Rattle.vec_literal.specs.ValueTexts.{doubled}
 use Rattle.vec_literal.proofs.Doubling.{part_doubled, no_quote}
