@@ -2,7 +2,7 @@
 -- two have the same spellings, values and beginnings.
 use Rattle.std.proofs.Common.{◌≡◌, inl, inr, List, [], ◌∷◌, ◌++◌, Option, Some, None, refl, sym, ◌∙◌, ap, subst, append-nil}
 use Rattle.vec_literal.specs.Tokens.{Token}
-use Rattle.grammar.specs.Grammar.{Part, seq, alt, opt, many, means, ◌▸◌, Spells, Begins, Repeats, FailsAt, FailsInside, SpellsFront}
+use Rattle.grammar.specs.Grammar.{Part, seq, alt, opt, many, means, ◌▸◌, ◌◂◌, Spells, Begins, Repeats, FailsAt, FailsInside, SpellsFront}
 use Rattle.grammar.specs.Reading.{or_default}
 
 -- what spells or begins p does so for q
@@ -158,3 +158,40 @@ option_parts d p q r a b = record {
   spelled = λ ts v s. option_cases d p q r a b ts v s.1.0.0 s.1.0.1 s.1.1 (s.2 ∙ ap (λ z. or_default d z) s.1.2);
   begun = λ ts s. b.begun ts (option_begun_back p q ts s);
 }
+
+-- ---- sameness goes through the forms of lines
+
+opt_spelled : {A : Type 0} (p q : Part A) → Within p q → (ts : List Token) (o : Option A) → Spells (opt p) ts o → Spells (opt q) ts o
+opt_spelled p q a ts None s = s
+opt_spelled p q a ts (Some v) s = a.spelled ts v s
+
+pub within_opt : {A : Type 0} (p q : Part A) → Within p q → Within (opt p) (opt q)
+within_opt p q a = record { spelled = opt_spelled p q a; begun = a.begun }
+
+pub same_refl : {A : Type 0} (p : Part A) → Same p p
+same_refl p = record { there = within_refl p; back = within_refl p }
+
+pub same_means : {A B : Type 0} (f : A → B) (p q : Part A) → Same p q → Same (means f p) (means f q)
+same_means f p q s = record { there = within_means f p q s.there; back = within_means f q p s.back }
+
+pub same_seq : {A B : Type 0} (p p' : Part A) (q q' : Part B) → Same p p' → Same q q' → Same (seq p q) (seq p' q')
+same_seq p p' q q' s t = record { there = within_seq p p' q q' s.there t.there; back = within_seq p' p q' q s.back t.back }
+
+pub same_alt : {A : Type 0} (p p' q q' : Part A) → Same p p' → Same q q' → Same (alt p q) (alt p' q')
+same_alt p p' q q' s t = record {
+  there = within_either p q (alt p' q') (within_first p p' q' s.there) (within_later q p' q' t.there);
+  back = within_either p' q' (alt p q) (within_first p' p q s.back) (within_later q' p q t.back);
+}
+
+pub same_opt : {A : Type 0} (p q : Part A) → Same p q → Same (opt p) (opt q)
+same_opt p q s = record { there = within_opt p q s.there; back = within_opt q p s.back }
+
+pub same_many : {A : Type 0} (p q : Part A) → Same p q → Same (many p) (many q)
+same_many p q s = record { there = within_many p q s.there; back = within_many q p s.back }
+
+-- p ▸ q and q ◂ p
+pub same_behind : {A B : Type 0} (p : Part A) (q q' : Part B) → Same q q' → Same (p ▸ q) (p ▸ q')
+same_behind p q q' s = same_means (λ x. x.1) (seq p q) (seq p q') (same_seq p p q q' (same_refl p) s)
+
+pub same_before : {A B : Type 0} (p : Part A) (q q' : Part B) → Same q q' → Same (q ◂ p) (q' ◂ p)
+same_before p q q' s = same_means (λ x. x.0) (seq q p) (seq q' p) (same_seq q q' p p s (same_refl p))

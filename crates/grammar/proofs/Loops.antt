@@ -2,7 +2,7 @@
 use Rattle.std.proofs.Common.{◌≡◌, ℕ, zero, suc, ◌<◌, ◌≤◌, true, false, cond, List, [], ◌∷◌, ◌++◌, length, Result, Ok, Err, refl, sym, ◌∙◌, ap, subst, arith, append_assoc, length-append, append-nil}
 use Rattle.std.proofs.lemmas.Bool.{cond-true, cond-false}
 use Rattle.vec_literal.specs.Tokens.{Token}
-use Rattle.grammar.specs.Grammar.{Part, many, Spells, SpellsFront, FailsAt, FailsInside}
+use Rattle.grammar.specs.Grammar.{Part, seq, many, means, Spells, SpellsFront, FailsAt, FailsInside}
 use Rattle.grammar.specs.Reading.{Outcome, ◌>>=◌, nullable, nexts, next_in, starts, read_many, read, ended, decides}
 use Rattle.grammar.specs.Gives.{Gives}
 use Rattle.grammar.specs.declared.reader.Stop.{Stop}
@@ -77,6 +77,27 @@ pub many_ends : {A : Type 0} (p : Part A) (front : List A) (ts : List Token) →
 many_ends {A} p front [] s = ap (λ (z : List A). (let r : Outcome (List A) = Ok (z, []) in r)) (append-nil front)
 many_ends {A} p front (t ∷ us) s =
     ap (λ (z : Outcome (List A)). with_front front z) (cond-false (starts p (t ∷ us)) _ _ s) ∙ ap (λ (z : List A). (let r : Outcome (List A) = Ok (z, t ∷ us) in r)) (append-nil front)
+
+-- one part, and then parts in braces
+
+abbrev pub list_from : {A : Type 0} → Part A → Part A → Part (List A)
+list_from p q = means (λ x. x.0 ∷ x.1) (seq p (many q))
+
+abbrev paired : {A : Type 0} → A → Outcome (List A) → Outcome (A × List A)
+paired v r = r >>= λ y. Ok ((v, y.0), y.1)
+
+abbrev listed : {A : Type 0} → Outcome (A × List A) → Outcome (List A)
+listed r = r >>= λ x. Ok (x.0.0 ∷ x.0.1, x.1)
+
+first_joined : {A : Type 0} (v : A) (r : Outcome (List A)) → listed (paired v r) ≡ with_front (v ∷ []) r
+first_joined v (Ok x) = refl
+first_joined v (Err e) = refl
+
+pub list_first : {A : Type 0} (p q : Part A) (ts rest : List Token) (v : A) → read p ts ≡ Ok (v, rest) → with_front (v ∷ []) (read (many q) rest) ≡ read (list_from p q) ts
+list_first {A} p q ts rest v e = sym (ap (λ (z : Outcome A). listed (z >>= λ x. paired x.0 (read (many q) x.1))) e ∙ first_joined v (read (many q) rest))
+
+pub list_none : {A : Type 0} (p q : Part A) (ts rest : List Token) → read p ts ≡ Err rest → read (list_from p q) ts ≡ Err rest
+list_none {A} p q ts rest e = ap (λ (z : Outcome A). listed (z >>= λ x. paired x.0 (read (many q) x.1))) e
 
 -- the whole text
 

@@ -4,7 +4,7 @@ use Rattle.std.specs.Prelude.{if◌then◌else◌, codes, max, nat_lt}
 use Rattle.std.specs.Option.{is_some, option_map}
 use Rattle.std.specs.Fmt.{decimal}
 use Rattle.std.specs.Str.Parse.{digits_value}
-use Rattle.std.proofs.lemmas.Bool.{and_parts, and_from, and_left, and_right, cond-true, cond-false, cases_Bool, both_ways, le-leb, lt-leb, cases_lt, lt-ltb, le-ltb, false_from_ne_true}
+use Rattle.std.proofs.lemmas.Bool.{and_parts, and_from, and_left, and_right, cond-true, cond-false, cases_Bool, both_ways, le-leb, leb-true, lt-leb, cases_lt, lt-ltb, le-ltb, false_from_ne_true}
 use Rattle.std.proofs.lemmas.Fmt.{decimal_is_IsNumeral}
 use Rattle.std.proofs.lemmas.Slice.Eq.{bytes_eq-Decides}
 use Rattle.vec_literal.specs.Tokens.{Token, is_number_text, is_param_text, is_text_literal, is_blob_literal}
@@ -279,3 +279,10 @@ parameter_stepped None n ts h = refl
 parameter_stepped (Some g) n [] h = refl
 parameter_stepped (Some g) n (t ∷ us) h =
     ap (λ (z : ℕ). numbered z us) (sym (greatest_with g n t (sym (next_first parameter (with_number (suc g) t ∷ numbered (greatest_after g t) us)) ∙ h.0) h.1))
+
+pub parameter_small : (n : ℕ) (ts : List Token) → next_in (parameter ∷ []) ts ≡ true → n ≡ parameter_number (first_of ts) → n ≤ 999
+unfolding fits
+parameter_small n ts h e =
+    let small : nat_le (parameter_number (first_of ts)) 999 ≡ true = (and_parts _ _ (sym (next_first parameter ts) ∙ h)).1 in
+    let few : parameter_number (first_of ts) ≤ 999 = leb-true (parameter_number (first_of ts)) 999 small in
+    omega (arith, e, few)

@@ -443,9 +443,10 @@ impl<'a> Reader<'a> {
     }
 
     /// Reads a parameter: its number, from 1 to 999.
-    #[tactic(auto, using(crate::proofs::Places::means_fits, crate::proofs::Places::means_fails))]
+    #[tactic(auto, using(crate::proofs::Places::means_fits, crate::proofs::Places::means_fails, crate::proofs::Numbering::parameter_small))]
     pub fn parameter(&mut self) -> Result<u16, Stop>
-        ensures { Gives (λ n. n) result (read a_parameter (rest_of self.old)) (rest_of self.new) }
+        ensures reads { Gives (λ n. n) result (read a_parameter (rest_of self.old)) (rest_of self.new) }
+        ensures small { IfOk result (λ n. n ≤ 999) }
     {
         match self.parameter_at() {
             Some(number) => {

@@ -7,9 +7,10 @@ mod rule;
 mod text;
 mod write;
 
+pub use meaning::schema_of;
 pub use read::{read_columns, read_columns_at};
 pub use rule::schema_rule;
-pub use text::{Arg, Spelled};
+pub use text::{Arg, Spelled, columns};
 pub use write::write_columns;
 
 #[cfg(test)]

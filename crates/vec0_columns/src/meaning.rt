@@ -23,7 +23,7 @@ use std::alloc::Global;
 use vec_base::{List, Memory, Refusal};
 
 /// The schema that the parts declare, or the refusal for the least rule that they break.
-pub(crate) fn schema_of(alloc: Global, args: &[Arg]) -> Result<Schema, Refusal>
+pub fn schema_of(alloc: Global, args: &[Arg]) -> Result<Schema, Refusal>
     requires { list_all has_name args.now ≡ true }
     ensures answer { IsAnswer result (answer_of args.now) }
     ensures valid { IfOk result (λ s. IsValidSchema s) }

@@ -257,7 +257,7 @@ fn tail(reader: &mut Reader<'_>) -> Result<Arg, Stop>
 }
 
 /// Reads parts with commas between them.
-pub(crate) fn columns(alloc: Global, reader: &mut Reader<'_>) -> Result<List<Arg>, Stop>
+pub fn columns(alloc: Global, reader: &mut Reader<'_>) -> Result<List<Arg>, Stop>
     ensures reads { Gives (λ v. v) result (read factored_columns (rest_of reader.old)) (rest_of reader.new) }
     ensures named { IfOk result (λ v. list_all has_name v ≡ true) }
 {

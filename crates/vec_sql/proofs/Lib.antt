@@ -1,4 +1,9 @@
+pub mod Lists
+pub mod Making
+pub mod Noting
 pub mod ReadBack
+pub mod Spelled
+pub mod StatementLines
 pub mod TextAdds
 pub mod TextLexemes
 pub mod TextParts

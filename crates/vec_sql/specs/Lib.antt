@@ -1,5 +1,9 @@
 pub mod Canonical
+pub mod Factored
+pub mod Formed
 pub mod Givens
 pub mod Held
+pub mod Made
+pub mod Noted
 pub mod Reads
 pub mod Statements

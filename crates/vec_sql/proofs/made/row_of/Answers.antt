@@ -1,0 +1,21 @@
+use Rattle.std.proofs.Common.{◌≡◌, ◌∷◌, [], ◌++◌, List, Err, Result, length, sym, ◌∙◌, ap, subst}
+use Rattle.std.specs.Prelude.{◌==◌}
+use Rattle.std.specs.List.{flat_map}
+use Rattle.std.proofs.lemmas.Result.{err_from_is_err_and}
+use Rattle.vec_base.specs.declared.value.Value.{Value}
+use Rattle.vec_sql.specs.declared.flaw.Flaw.{Flaw}
+use Rattle.vec_sql.specs.declared.given.Given.{Given}
+use Rattle.vec_sql.specs.Givens.{concerns_of, uses_of, group_concerns, row}
+use Rattle.vec_sql.specs.Made.{AreTaken, IsMade}
+use Rattle.vec_sql.specs.Reads.{Each, MeansValue, MeansGroup}
+use Rattle.vec_sql.proofs.Making.{flaw_behind}
+use Rattle.vec_sql.proofs.made.row_of.Goals as goal
+
+pub returns-in_err-values : goal.returns-in_err-values
+returns-in_err-values c =
+    let p = err_from_is_err_and c.from_residual.result c.from_residual.ensures.1 in
+    subst (λ (r : Result (List Value) Flaw). IsMade (group_concerns c.args.count c.args.group.now) (AreTaken c.args.params.now (flat_map uses_of c.args.group.now.values)) (MeansGroup c.args.params.now c.args.group.now) r) (sym (p.1 ∙ ap Err p.2))
+    (flaw_behind {Y = List Value} {Z = List Value} [] (flat_map concerns_of c.as_slice.result.now) (row c.args.group.now.close (length c.args.group.now.values == c.args.count) ∷ []) (group_concerns c.args.count c.args.group.now)
+    (AreTaken c.args.params.now (flat_map uses_of c.as_slice.result.now)) (AreTaken c.args.params.now (flat_map uses_of c.args.group.now.values))
+    (Each (MeansValue c.args.params.now) c.as_slice.result.now) (MeansGroup c.args.params.now c.args.group.now) c.in_err-values.field-0.0 tt
+    (ap (λ (z : List Given). flat_map concerns_of z ++ row c.args.group.now.close (length c.args.group.now.values == c.args.count) ∷ []) (sym c.as_slice.ensures)) c.in_err-values.ensures)

@@ -1,0 +1,104 @@
+ghost use Rattle.std.specs.Prelude.{◌≡◌, ◌++◌, true, length, IfOk};
+ghost use Rattle.std.specs.List.{flat_map, list_all};
+ghost use Rattle.vec0_columns.specs.Columns.{has_name};
+ghost use Rattle.vec_sql.specs.declared.given.GivenStatement.TheVariants as statements;
+ghost use Rattle.vec_sql.specs.Formed.{is_formed};
+ghost use Rattle.vec_sql.specs.Givens.{group_concerns};
+ghost use Rattle.vec_sql.specs.Made.{AreTaken, IsMade, IsStatementMade, group_uses, limit_concerns, limit_uses, set_concerns, set_uses, term_concerns, term_uses};
+ghost use Rattle.vec_sql.specs.Reads.{EachOption, MeansDelete, MeansInsert, MeansSelect, MeansUpdate, MeansValue};
+
+use crate::flaw::Flaw;
+use crate::given::{Given, GivenAssign, GivenSelect, GivenStatement, GivenTerm, Group};
+use crate::made::{rows_of, sets_of, terms_of, value_of};
+use row_model::{Delete, Insert, Items, Select, Statement, Update};
+use std::alloc::Global;
+use vec_base::{List, Memory, Refusal, Txt, Value};
+use vec0_columns::{Arg, schema_of};
+
+/// Equal names.
+fn names_of(alloc: Global, names: &[Txt]) -> Result<List<Txt>, Memory>
+    ensures { IfOk result (λ copies. copies ≡ names.now) }
+{
+    let mut copies = List::new(alloc);
+    for name in names {
+        let copy = name.copy(alloc)?;
+        copies.push(copy)?;
+    }
+    Ok(copies)
+}
+
+/// Equal items.
+fn items_of(alloc: Global, items: &Items) -> Result<Items, Memory>
+    ensures { IfOk result (λ copy. copy ≡ items.now) }
+{
+    match items {
+        Items::All => Ok(Items::All),
+        Items::Named(names) => Ok(Items::Named(names_of(alloc, names.as_slice())?)),
+    }
+}
+
+/// The value of LIMIT.
+fn limit_of(alloc: Global, limit: &Option<Given>, params: &[Value]) -> Result<Option<Value>, Flaw>
+    ensures { IsMade (limit_concerns limit.now) (AreTaken params.now (limit_uses limit.now)) (EachOption (MeansValue params.now) limit.now) result }
+{
+    match limit {
+        Some(given) => Ok(Some(value_of(alloc, given, params)?)),
+        None => Ok(None),
+    }
+}
+
+/// The SELECT that is given.
+#[tactic(auto, using(crate::proofs::Making::flaw_first, crate::proofs::Making::flaw_second, crate::proofs::Making::fine_both, crate::proofs::Making::taken_first, crate::proofs::Making::taken_second))]
+fn select_of(alloc: Global, given: &GivenSelect, params: &[Value]) -> Result<Select, Flaw>
+    ensures { IsMade (term_concerns given.now.wanted ++ limit_concerns given.now.limit) (AreTaken params.now (term_uses given.now.wanted ++ limit_uses given.now.limit)) (MeansSelect params.now given.now) result }
+{
+    let wanted = terms_of(alloc, given.wanted.as_slice(), params)?;
+    let limit = limit_of(alloc, &given.limit, params)?;
+    let items = items_of(alloc, &given.items)?;
+    let table = given.table.copy(alloc)?;
+    Ok(Select {
+        table,
+        items,
+        wanted,
+        order: given.order,
+        limit,
+    })
+}
+
+/// The INSERT that is given.
+fn insert_of(alloc: Global, name: &Txt, names: &[Txt], groups: &[Group], params: &[Value]) -> Result<Insert, Flaw>
+    ensures { IsMade (flat_map (group_concerns (length names.now)) groups.now) (AreTaken params.now (group_uses groups.now)) (MeansInsert params.now name.now names.now groups.now) result }
+{
+    let rows = rows_of(alloc, groups, names.len(), params)?;
+    let columns = names_of(alloc, names)?;
+    let table = name.copy(alloc)?;
+    Ok(Insert {
+        table,
+        columns,
+        rows,
+    })
+}
+
+/// The UPDATE that is given.
+#[tactic(auto, using(crate::proofs::Making::flaw_first, crate::proofs::Making::flaw_second, crate::proofs::Making::fine_both, crate::proofs::Making::taken_first, crate::proofs::Making::taken_second))]
+fn update_of(alloc: Global, name: &Txt, assigns: &[GivenAssign], terms: &[GivenTerm], params: &[Value]) -> Result<Update, Flaw>
+    ensures { IsMade (set_concerns assigns.now ++ term_concerns terms.now) (AreTaken params.now (set_uses assigns.now ++ term_uses terms.now)) (MeansUpdate params.now name.now assigns.now terms.now) result }
+{
+    let sets = sets_of(alloc, assigns, params)?;
+    let wanted = terms_of(alloc, terms, params)?;
+    let table = name.copy(alloc)?;
+    Ok(Update {
+        table,
+        sets,
+        wanted,
+    })
+}
+
+/// The DELETE that is given.
+fn delete_of(alloc: Global, name: &Txt, terms: &[GivenTerm], params: &[Value]) -> Result<Delete, Flaw>
+    ensures { IsMade (term_concerns terms.now) (AreTaken params.now (term_uses terms.now)) (MeansDelete params.now name.now terms.now) result }
+{
+    let wanted = terms_of(alloc, terms, params)?;
+    let table = name.copy(alloc)?;
+    Ok(Delete { table, wanted })
+}

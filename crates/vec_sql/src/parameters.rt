@@ -1,0 +1,170 @@
+ghost use Rattle.std.specs.Prelude.{◌≡◌, ◌≤◌, true, length, IfOk, MatchBool, MatchOption};
+ghost use Rattle.std.specs.List.{flat_map};
+ghost use Rattle.vec_sql.specs.Formed.{is_formed};
+ghost use Rattle.vec_sql.specs.Givens.{bits, int8, uses, uses_of};
+ghost use Rattle.vec_sql.specs.Made.{group_uses, limit_uses, set_uses, term_uses, test_uses};
+ghost use Rattle.vec_sql.specs.Noted.{NotesMore, fault_of, lesser, noted};
+ghost use Rattle.vec_sql.specs.Reads.{IsParameterFault, ParametersFit, Takes, parameter};
+
+use crate::given::{Given, GivenAssign, GivenSelect, GivenStatement, GivenTerm, GivenTest, Group};
+use crate::vector::{int8_of, parameter};
+use std::alloc::Global;
+use vec_base::{Memory, Value};
+
+/// What is noted of the parameters so far: the greatest number, 0 where there is none, and the least number of one that is
+/// not taken.
+#[derive(Clone, Copy, Debug)]
+pub(crate) struct Notes {
+    greatest: u16,
+    untaken: Option<u16>,
+}
+
+impl Notes {
+    /// The notes with a parameter more.
+    fn with(self, number: u16, taken: bool) -> Notes
+        ensures { result ≡ noted number taken self }
+    {
+        Notes {
+            greatest: self.greatest.max(number),
+            untaken: if taken { self.untaken } else { Some(lesser(number, self.untaken)) },
+        }
+    }
+}
+
+/// The lesser of two numbers, or the one that there is.
+fn lesser(number: u16, other: Option<u16>) -> u16
+    ensures { result ≡ lesser number other }
+{
+    match other {
+        Some(other) => {
+            if number < other {
+                number
+            } else {
+                other
+            }
+        }
+        None => number,
+    }
+}
+
+/// Whether VEC_INT8 takes the parameter.
+fn is_int8(alloc: Global, params: &[Value], number: u16) -> Result<bool, Memory>
+    ensures { IfOk result (λ taken. MatchBool taken (Takes int8 (parameter params.now number)) (Takes int8 (parameter params.now number) → ⊥)) }
+{
+    let Some(value) = parameter(params, number) else {
+        return Ok(false);
+    };
+    value_is_int8(alloc, value)
+}
+
+/// Whether VEC_INT8 takes the value.
+fn value_is_int8(alloc: Global, value: &Value) -> Result<bool, Memory>
+    ensures { IfOk result (λ taken. MatchBool taken (Takes int8 value.now) (Takes int8 value.now → ⊥)) }
+{
+    match value {
+        Value::Text(text) => {
+            let vector = int8_of(alloc, text.as_text().as_bytes())?;
+            Ok(vector.is_some())
+        }
+        Value::Blob(_) => Ok(true),
+        Value::Int8(_) => Ok(true),
+        _ => Ok(false),
+    }
+}
+
+/// Whether VEC_BIT takes the parameter.
+fn is_bits(params: &[Value], number: u16) -> bool
+    ensures { MatchBool result (Takes bits (parameter params.now number)) (Takes bits (parameter params.now number) → ⊥) }
+{
+    match parameter(params, number) {
+        Some(value) => value_is_bits(value),
+        None => false,
+    }
+}
+
+/// Whether VEC_BIT takes the value.
+fn value_is_bits(value: &Value) -> bool
+    ensures { MatchBool result (Takes bits value.now) (Takes bits value.now → ⊥) }
+{
+    match value {
+        Value::Blob(_) => true,
+        Value::Bits(_) => true,
+        _ => false,
+    }
+}
+
+/// The notes with what a value is given by.
+#[tactic(auto, using(crate::proofs::Noting::no_uses, crate::proofs::Noting::any_noted, crate::proofs::Noting::int8_noted, crate::proofs::Noting::bits_noted))]
+fn note_value(alloc: Global, notes: Notes, given: &Given, params: &[Value]) -> Result<Notes, Memory>
+    ensures { IfOk result (λ new. NotesMore params.now (uses_of given.now) notes new) }
+{
+    match given {
+        Given::Value(_) => Ok(notes),
+        Given::Parameter(number) => Ok(notes.with(*number, true)),
+        Given::Int8Text(_, _) => Ok(notes),
+        Given::Int8Parameter(number) => {
+            let taken = is_int8(alloc, params, *number)?;
+            Ok(notes.with(*number, taken))
+        }
+        Given::BitsParameter(number) => {
+            let taken = is_bits(params, *number);
+            Ok(notes.with(*number, taken))
+        }
+    }
+}
+
+/// The notes with what values are given by.
+fn note_values(alloc: Global, notes: Notes, givens: &[Given], params: &[Value]) -> Result<Notes, Memory>
+    ensures { IfOk result (λ new. NotesMore params.now (flat_map uses_of givens.now) notes new) }
+{
+    let mut noted = notes;
+    for given in givens {
+        noted = note_value(alloc, noted, given, params)?;
+    }
+    Ok(noted)
+}
+
+/// The notes with the values of a test.
+#[tactic(auto, using(crate::proofs::Noting::one_value))]
+fn note_test(alloc: Global, notes: Notes, test: &GivenTest, params: &[Value]) -> Result<Notes, Memory>
+    ensures { IfOk result (λ new. NotesMore params.now (test_uses test.now) notes new) }
+{
+    match test {
+        GivenTest::Compare(_, given) => note_value(alloc, notes, given, params),
+        GivenTest::Member(givens) => note_values(alloc, notes, givens.as_slice(), params),
+        GivenTest::Match(given) => note_value(alloc, notes, given, params),
+    }
+}
+
+/// The notes with the values of terms.
+fn note_terms(alloc: Global, notes: Notes, terms: &[GivenTerm], params: &[Value]) -> Result<Notes, Memory>
+    ensures { IfOk result (λ new. NotesMore params.now (term_uses terms.now) notes new) }
+{
+    let mut noted = notes;
+    for term in terms {
+        noted = note_test(alloc, noted, &term.test, params)?;
+    }
+    Ok(noted)
+}
+
+/// The notes with the values that columns are set to.
+fn note_sets(alloc: Global, notes: Notes, sets: &[GivenAssign], params: &[Value]) -> Result<Notes, Memory>
+    ensures { IfOk result (λ new. NotesMore params.now (set_uses sets.now) notes new) }
+{
+    let mut noted = notes;
+    for set in sets {
+        noted = note_value(alloc, noted, &set.value, params)?;
+    }
+    Ok(noted)
+}
+
+/// The notes with the values of rows.
+fn note_groups(alloc: Global, notes: Notes, groups: &[Group], params: &[Value]) -> Result<Notes, Memory>
+    ensures { IfOk result (λ new. NotesMore params.now (group_uses groups.now) notes new) }
+{
+    let mut noted = notes;
+    for group in groups {
+        noted = note_values(alloc, noted, group.values.as_slice(), params)?;
+    }
+    Ok(noted)
+}

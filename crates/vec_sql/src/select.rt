@@ -1,0 +1,129 @@
+ghost use Rattle.std.specs.Prelude.{◌≡◌, true, IfOk};
+ghost use Rattle.grammar.specs.Gives.{rest_of, Gives};
+ghost use Rattle.grammar.specs.Reading.{read};
+ghost use Rattle.vec_sql.specs.Statements.{by_distance, by_rowid, items_part, limit, order};
+ghost use Rattle.vec_sql.specs.Factored.{factored_select, maybe_limit, maybe_order};
+ghost use Rattle.vec_sql.specs.Formed.{are_formed_items, is_formed_limit, is_formed_select, is_formed_value};
+
+use crate::given::{Given, GivenSelect};
+use crate::list::names;
+use crate::term::maybe_where;
+use crate::value::{may_say, value};
+use grammar::{Reader, Stop};
+use row_model::{Items, Order};
+use std::alloc::Global;
+
+/// Reads `*` or names.
+#[tactic(auto, unfolding(crate::specs::Statements::items_part, crate::specs::Factored::names_list))]
+fn items(alloc: Global, reader: &mut Reader<'_>) -> Result<Items, Stop>
+    ensures reads { Gives (λ x. x) result (read items_part (rest_of reader.old)) (rest_of reader.new) }
+    ensures formed { IfOk result (λ items. are_formed_items items ≡ true) }
+{
+    if reader.at_mark(b"*") {
+        reader.mark(b"*")?;
+        Ok(Items::All)
+    } else {
+        let names = names(alloc, reader)?;
+        Ok(Items::Named(names))
+    }
+}
+
+/// Reads the order by distance.
+#[tactic(auto, unfolding(crate::specs::Statements::by_distance))]
+fn by_distance(reader: &mut Reader<'_>) -> Result<Order, Stop>
+    ensures { Gives (λ x. x) result (read by_distance (rest_of reader.old)) (rest_of reader.new) }
+{
+    reader.word(b"DISTANCE")?;
+    may_say(reader, b"ASC")?;
+    if reader.at_mark(b",") {
+        reader.mark(b",")?;
+        reader.word(b"ROWID")?;
+        may_say(reader, b"ASC")?;
+        Ok(Order::ByDistance)
+    } else {
+        Ok(Order::ByDistance)
+    }
+}
+
+/// Reads the order by rowid.
+#[tactic(auto, unfolding(crate::specs::Statements::by_rowid))]
+fn by_rowid(reader: &mut Reader<'_>) -> Result<Order, Stop>
+    ensures { Gives (λ x. x) result (read by_rowid (rest_of reader.old)) (rest_of reader.new) }
+{
+    reader.word(b"ROWID")?;
+    may_say(reader, b"ASC")?;
+    Ok(Order::ByRowid)
+}
+
+/// Reads ORDER BY.
+#[tactic(auto, unfolding(crate::specs::Statements::order, crate::specs::Statements::by_distance))]
+fn order(reader: &mut Reader<'_>) -> Result<Order, Stop>
+    ensures { Gives (λ x. x) result (read order (rest_of reader.old)) (rest_of reader.new) }
+{
+    reader.word(b"ORDER")?;
+    reader.word(b"BY")?;
+    if reader.at_word(b"DISTANCE") {
+        by_distance(reader)
+    } else {
+        by_rowid(reader)
+    }
+}
+
+/// Reads ORDER BY, where it is at hand.
+#[tactic(auto, unfolding(crate::specs::Factored::maybe_order, crate::specs::Statements::order))]
+fn maybe_order(reader: &mut Reader<'_>) -> Result<Order, Stop>
+    ensures { Gives (λ x. x) result (read maybe_order (rest_of reader.old)) (rest_of reader.new) }
+{
+    if reader.at_word(b"ORDER") {
+        let order = order(reader)?;
+        Ok(order)
+    } else {
+        Ok(Order::Unsaid)
+    }
+}
+
+/// Reads LIMIT and its value.
+#[tactic(auto, unfolding(crate::specs::Statements::limit))]
+fn limit(reader: &mut Reader<'_>) -> Result<Given, Stop>
+    ensures reads { Gives (λ x. x) result (read limit (rest_of reader.old)) (rest_of reader.new) }
+    ensures formed { IfOk result (λ given. is_formed_value given ≡ true) }
+{
+    reader.word(b"LIMIT")?;
+    value(reader)
+}
+
+/// Reads LIMIT and its value, where it is at hand.
+#[tactic(auto, unfolding(crate::specs::Factored::maybe_limit, crate::specs::Statements::limit))]
+fn maybe_limit(reader: &mut Reader<'_>) -> Result<Option<Given>, Stop>
+    ensures reads { Gives (λ x. x) result (read maybe_limit (rest_of reader.old)) (rest_of reader.new) }
+    ensures formed { IfOk result (λ given. is_formed_limit given ≡ true) }
+{
+    if reader.at_word(b"LIMIT") {
+        let given = limit(reader)?;
+        Ok(Some(given))
+    } else {
+        Ok(None)
+    }
+}
+
+/// Reads a SELECT.
+#[tactic(auto, unfolding(crate::specs::Factored::factored_select))]
+pub(crate) fn select(alloc: Global, reader: &mut Reader<'_>) -> Result<GivenSelect, Stop>
+    ensures reads { Gives (λ x. x) result (read factored_select (rest_of reader.old)) (rest_of reader.new) }
+    ensures formed { IfOk result (λ select. is_formed_select select ≡ true) }
+{
+    reader.word(b"SELECT")?;
+    let items = items(alloc, reader)?;
+    reader.word(b"FROM")?;
+    let table = reader.name()?;
+    let wanted = maybe_where(alloc, reader)?;
+    let order = maybe_order(reader)?;
+    let limit = maybe_limit(reader)?;
+    Ok(GivenSelect {
+        table,
+        items,
+        wanted,
+        order,
+        limit,
+    })
+}

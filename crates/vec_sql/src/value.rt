@@ -1,0 +1,179 @@
+ghost use Rattle.std.specs.Prelude.{◌≡◌, Some, None, if◌then◌else◌, IfOk, true};
+ghost use Rattle.grammar.specs.Gives.{rest_of, Gives};
+ghost use Rattle.grammar.specs.Reading.{read};
+ghost use Rattle.vec_sql.specs.Formed.{is_formed_value};
+ghost use Rattle.vec_sql.specs.Statements.{may_say, op, value, vec_bit, vec_int8};
+ghost use Rattle.vec_sql.specs.Factored.{bits_operand, int8_operand, operand, order_op, word_value};
+
+use crate::given::Given;
+use grammar::{Reader, Stop};
+use vec_base::{Op, Value};
+
+/// Passes the word where it is at hand, and answers whether it is.
+pub(crate) fn may_say(reader: &mut Reader<'_>, word: &[u8]) -> Result<bool, Stop>
+    ensures { Gives (λ said. if said then Some tt else None) result (read (may_say word.now) (rest_of reader.old)) (rest_of reader.new) }
+{
+    if reader.at_word(word) {
+        reader.word(word)?;
+        Ok(true)
+    } else {
+        Ok(false)
+    }
+}
+
+/// Reads what VEC_INT8 is given.
+#[tactic(auto, unfolding(crate::specs::Factored::int8_operand))]
+fn int8_operand(reader: &mut Reader<'_>) -> Result<Given, Stop>
+    ensures reads { Gives (λ x. x) result (read int8_operand (rest_of reader.old)) (rest_of reader.new) }
+    ensures formed { IfOk result (λ given. is_formed_value given ≡ true) }
+{
+    if reader.at_text() {
+        let (place, text) = reader.placed_text()?;
+        Ok(Given::Int8Text(place, text))
+    } else if reader.at_blob() {
+        let bytes = reader.blob()?;
+        Ok(Given::Value(Value::Int8(bytes)))
+    } else {
+        let number = reader.parameter()?;
+        Ok(Given::Int8Parameter(number))
+    }
+}
+
+/// Reads an int8 vector.
+#[tactic(auto, unfolding(crate::specs::Statements::vec_int8, crate::specs::Factored::int8_operand))]
+fn vec_int8(reader: &mut Reader<'_>) -> Result<Given, Stop>
+    ensures reads { Gives (λ x. x) result (read vec_int8 (rest_of reader.old)) (rest_of reader.new) }
+    ensures formed { IfOk result (λ given. is_formed_value given ≡ true) }
+{
+    reader.word(b"VEC_INT8")?;
+    reader.mark(b"(")?;
+    let given = int8_operand(reader)?;
+    reader.mark(b")")?;
+    Ok(given)
+}
+
+/// Reads what VEC_BIT is given.
+#[tactic(auto, unfolding(crate::specs::Factored::bits_operand))]
+fn bits_operand(reader: &mut Reader<'_>) -> Result<Given, Stop>
+    ensures reads { Gives (λ x. x) result (read bits_operand (rest_of reader.old)) (rest_of reader.new) }
+    ensures formed { IfOk result (λ given. is_formed_value given ≡ true) }
+{
+    if reader.at_blob() {
+        let bytes = reader.blob()?;
+        Ok(Given::Value(Value::Bits(bytes)))
+    } else {
+        let number = reader.parameter()?;
+        Ok(Given::BitsParameter(number))
+    }
+}
+
+/// Reads a bit vector.
+#[tactic(auto, unfolding(crate::specs::Statements::vec_bit, crate::specs::Factored::bits_operand))]
+fn vec_bit(reader: &mut Reader<'_>) -> Result<Given, Stop>
+    ensures reads { Gives (λ x. x) result (read vec_bit (rest_of reader.old)) (rest_of reader.new) }
+    ensures formed { IfOk result (λ given. is_formed_value given ≡ true) }
+{
+    reader.word(b"VEC_BIT")?;
+    reader.mark(b"(")?;
+    let given = bits_operand(reader)?;
+    reader.mark(b")")?;
+    Ok(given)
+}
+
+/// Reads a parameter or a vector.
+#[tactic(auto, unfolding(crate::specs::Factored::operand, crate::specs::Statements::vec_int8))]
+fn operand(reader: &mut Reader<'_>) -> Result<Given, Stop>
+    ensures reads { Gives (λ x. x) result (read operand (rest_of reader.old)) (rest_of reader.new) }
+    ensures formed { IfOk result (λ given. is_formed_value given ≡ true) }
+{
+    if reader.at_parameter() {
+        let number = reader.parameter()?;
+        Ok(Given::Parameter(number))
+    } else if reader.at_word(b"VEC_INT8") {
+        vec_int8(reader)
+    } else {
+        vec_bit(reader)
+    }
+}
+
+/// Reads a value that is no literal.
+#[tactic(auto, unfolding(crate::specs::Factored::word_value))]
+fn word_value(reader: &mut Reader<'_>) -> Result<Given, Stop>
+    ensures reads { Gives (λ x. x) result (read word_value (rest_of reader.old)) (rest_of reader.new) }
+    ensures formed { IfOk result (λ given. is_formed_value given ≡ true) }
+{
+    if reader.at_word(b"NULL") {
+        reader.word(b"NULL")?;
+        Ok(Given::Value(Value::Null))
+    } else if reader.at_word(b"TRUE") {
+        reader.word(b"TRUE")?;
+        Ok(Given::Value(Value::Int(1)))
+    } else if reader.at_word(b"FALSE") {
+        reader.word(b"FALSE")?;
+        Ok(Given::Value(Value::Int(0)))
+    } else {
+        operand(reader)
+    }
+}
+
+/// Reads a value.
+#[tactic(auto, unfolding(crate::specs::Statements::value, crate::specs::Factored::word_value, crate::specs::Factored::operand))]
+pub(crate) fn value(reader: &mut Reader<'_>) -> Result<Given, Stop>
+    ensures reads { Gives (λ x. x) result (read value (rest_of reader.old)) (rest_of reader.new) }
+    ensures formed { IfOk result (λ given. is_formed_value given ≡ true) }
+{
+    if reader.at_signed_number() {
+        let number = reader.signed_number()?;
+        Ok(Given::Value(Value::Int(number)))
+    } else if reader.at_text() {
+        let text = reader.text()?;
+        Ok(Given::Value(Value::Text(text)))
+    } else if reader.at_blob() {
+        let bytes = reader.blob()?;
+        Ok(Given::Value(Value::Blob(bytes)))
+    } else {
+        word_value(reader)
+    }
+}
+
+/// Reads an operator that asks for an order.
+#[tactic(auto, unfolding(crate::specs::Factored::order_op))]
+fn order_op(reader: &mut Reader<'_>) -> Result<Op, Stop>
+    ensures { Gives (λ x. x) result (read order_op (rest_of reader.old)) (rest_of reader.new) }
+{
+    if reader.at_mark(b"<") {
+        reader.mark(b"<")?;
+        Ok(Op::Lt)
+    } else if reader.at_mark(b"<=") {
+        reader.mark(b"<=")?;
+        Ok(Op::Le)
+    } else if reader.at_mark(b">") {
+        reader.mark(b">")?;
+        Ok(Op::Gt)
+    } else {
+        reader.mark(b">=")?;
+        Ok(Op::Ge)
+    }
+}
+
+/// Reads an operator.
+#[tactic(auto, unfolding(crate::specs::Statements::op, crate::specs::Factored::order_op))]
+pub(crate) fn op(reader: &mut Reader<'_>) -> Result<Op, Stop>
+    ensures { Gives (λ x. x) result (read op (rest_of reader.old)) (rest_of reader.new) }
+{
+    if reader.at_mark(b"=") {
+        reader.mark(b"=")?;
+        Ok(Op::Eq)
+    } else if reader.at_mark(b"==") {
+        reader.mark(b"==")?;
+        Ok(Op::Eq)
+    } else if reader.at_mark(b"!=") {
+        reader.mark(b"!=")?;
+        Ok(Op::Ne)
+    } else if reader.at_mark(b"<>") {
+        reader.mark(b"<>")?;
+        Ok(Op::Ne)
+    } else {
+        order_op(reader)
+    }
+}
