@@ -263,3 +263,14 @@ whole_answers text r i result h e k =
 -- the fault of an answer that is one
 pub fault_of_answer : (text : List ℕ) (f : LitFault) → Answers text (Err f) → (f ≡ Memory → ⊥) → IsInt8Fault text f
 fault_of_answer text f h other = elim h.fault [ inl memory ↦ absurd (other memory) | inr told ↦ told ]
+
+-- no text spells two vectors
+
+one_closed : (m : Option ℕ) (read text v w : List ℕ) → Reads text (record { stage = Closed; vector = read; misfit = m }) → SpellsInt8 text v → SpellsInt8 text w → v ≡ w
+one_closed None read text v w e s t = let a = ok_answers text read e in sym (a.only v s) ∙ a.only w t
+one_closed (Some i) read text v w e s t = absurd ((range_answers text read i e).only v s)
+
+pub one_vector : (text v w : List ℕ) → SpellsInt8 text v → SpellsInt8 text w → v ≡ w
+one_vector text v w s t =
+    let (r, kept, read) = list_reads text s.elements s.list in
+    one_closed (moved r Closed).misfit (moved r Closed).vector text v w read s t

@@ -1,6 +1,9 @@
+pub mod Answering
 pub mod Lists
 pub mod Making
+pub mod Meant
 pub mod Noting
+pub mod OneMeaning
 pub mod ReadBack
 pub mod Spelled
 pub mod StatementLines

@@ -1,5 +1,5 @@
 -- What is made of the parts of a statement.
-use Rattle.std.proofs.Common.{◌≡◌, ℕ, suc, ◌+◌, ◌<◌, List, [], ◌∷◌, ◌++◌, length, take, drop, get_or, Option, Some, None, Result, Ok, Err, refl, sym, ◌∙◌, ap, subst, arith, append_assoc, append-nil}
+use Rattle.std.proofs.Common.{◌≡◌, ℕ, ◌+◌, ◌<◌, List, [], ◌∷◌, ◌++◌, length, take, drop, get_or, Option, Some, None, Result, Ok, Err, refl, sym, ◌∙◌, ap, subst, append_assoc, append-nil}
 use Rattle.std.specs.Prelude.{Bool, MatchBool, MatchOption, IfOk}
 use Rattle.std.specs.Option.{is_some}
 use Rattle.std.specs.List.{AllByRecursion, flat_map}
@@ -12,7 +12,7 @@ use Rattle.vec_sql.specs.declared.flaw.Flaw.{Flaw}
 use Rattle.vec_sql.specs.declared.flaw.Flaw.TheVariants as flaws
 use Rattle.vec_sql.specs.declared.given.Given.{Given}
 use Rattle.vec_sql.specs.declared.given.Given.TheVariants as givens
-use Rattle.vec_sql.specs.Givens.{Concern, literal, row, concerns_of, Use, uses_of, int8, bits}
+use Rattle.vec_sql.specs.Givens.{Concern, literal, concerns_of, Use, int8}
 use Rattle.vec_sql.specs.Made.{AreFine, AreTaken, IsMade}
 use Rattle.vec_sql.specs.Reads.{Each, place_of, IsFine, IsFirstBad, IsTaken, Takes, GivesInt8}
 

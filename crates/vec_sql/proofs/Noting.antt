@@ -1,14 +1,13 @@
 -- What is noted of parameters.
-use Rattle.std.proofs.Common.{◌≡◌, ℕ, suc, ◌+◌, ◌<◌, ◌≤◌, Bool, true, false, inl, inr, List, [], ◌∷◌, ◌++◌, length, take, Option, Some, None, refl, sym, ◌∙◌, ap, subst, arith, append_assoc, append-nil}
-use Rattle.std.specs.Prelude.{max, MatchBool, MatchOption, if◌then◌else◌, nat_lt}
+use Rattle.std.proofs.Common.{◌≡◌, ℕ, ◌+◌, ◌<◌, ◌≤◌, Bool, true, false, inl, inr, List, [], ◌∷◌, ◌++◌, length, Option, Some, None, refl, sym, ◌∙◌, ap, subst, arith, append_assoc, append-nil}
+use Rattle.std.specs.Prelude.{max, MatchBool, MatchOption, nat_lt}
 use Rattle.std.specs.List.{AllByRecursion, flat_map}
 use Rattle.std.proofs.lemmas.Bool.{cases_lt, cond-true, cond-false, lt-ltb, le-ltb}
-use Rattle.std.proofs.lemmas.Grind.{flat_map-append}
 use Rattle.vec_base.specs.declared.value.Value.{Value}
 use Rattle.vec_sql.specs.declared.parameters.Notes.{Notes}
 use Rattle.vec_sql.specs.declared.given.Given.{Given}
 use Rattle.vec_sql.specs.declared.given.Given.TheVariants as givens
-use Rattle.vec_sql.specs.Givens.{Use, Taker, any, int8, bits, uses_of}
+use Rattle.vec_sql.specs.Givens.{Use, any, int8, bits, uses_of}
 use Rattle.vec_sql.specs.Made.{AreTaken}
 use Rattle.vec_sql.specs.Noted.{Noted, NotesMore, lesser, noted, fault_of}
 use Rattle.vec_sql.specs.Reads.{IsTaken, Takes, parameter, greatest, IsLeastUntaken, IsParameterFault, ParametersFit}
@@ -111,3 +110,38 @@ notes_more us params front more x old mid new h k e =
 
 pub notes_end : {X : Type 0} (us : X → List Use) (params : List Value) (front all : List X) (old new : Notes) → NotesMore params (flat_map us front) old new → front ≡ all → NotesMore params (flat_map us all) old new
 notes_end us params front all old new h e = subst (λ z. NotesMore params (flat_map us z) old new) e h
+
+-- ---- the fault
+
+pub noted_none : (params : List Value) (notes : Notes) → notes.greatest ≡ 0 → notes.untaken ≡ None → Noted params [] notes
+noted_none params notes g u = record { greatest = g; untaken = subst (λ (o : Option ℕ). Untaken params [] o) (sym u) tt }
+
+untaken_fault : (params : List Value) (seen : List Use) (o : Option ℕ) → greatest seen ≡ length params → Untaken params seen o → MatchOption o (ParametersFit params seen) (λ index. IsParameterFault params seen index)
+untaken_fault params seen None e h = record { count = e; taken = h }
+untaken_fault params seen (Some index) e h = inr (inr (e, h))
+
+abbrev Fault : List Value → List Use → Option ℕ → Type 0
+Fault params seen o = MatchOption o (ParametersFit params seen) (λ index. IsParameterFault params seen index)
+
+pub fault_told : (params : List Value) (seen : List Use) (notes : Notes) → Noted params seen notes → Fault params seen (fault_of notes (length params))
+fault_told params seen notes n = elim (cases_lt (length params) notes.greatest) [
+  | inl l ↦ subst (λ (o : Option ℕ). Fault params seen o) (sym (cond-true (nat_lt (length params) notes.greatest) (Some (length params + 1)) _ (lt-ltb (length params) notes.greatest l)))
+      (inl (omega (arith, l, n.greatest), refl))
+  | inr l ↦ elim (cases_lt notes.greatest (length params)) [
+    | inl k ↦ subst (λ (o : Option ℕ). Fault params seen o)
+        (sym (cond-false (nat_lt (length params) notes.greatest) (Some (length params + 1)) _ (le-ltb (length params) notes.greatest l) ∙ cond-true (nat_lt notes.greatest (length params)) (Some (notes.greatest + 1)) notes.untaken (lt-ltb notes.greatest (length params) k)))
+        (inr (inl (omega (arith, k, n.greatest), ap (λ (m : ℕ). m + 1) n.greatest)))
+    | inr k ↦ subst (λ (o : Option ℕ). Fault params seen o)
+        (sym (cond-false (nat_lt (length params) notes.greatest) (Some (length params + 1)) _ (le-ltb (length params) notes.greatest l) ∙ cond-false (nat_lt notes.greatest (length params)) (Some (notes.greatest + 1)) notes.untaken (le-ltb notes.greatest (length params) k)))
+        (untaken_fault params seen notes.untaken (sym n.greatest ∙ (let e : notes.greatest ≡ length params = omega (arith, l, k) in e)) n.untaken)
+  ]
+]
+
+-- ---- no number is above 999
+
+abbrev AreSmall : List Use → Type 0
+AreSmall all = AllByRecursion (λ used. used.number ≤ 999) all
+
+pub small_greatest : (all : List Use) → AllByRecursion (λ used. used.number ≤ 999) all → greatest all ≤ 999
+small_greatest [] h = omega arith
+small_greatest (used ∷ all) h = let more : greatest all ≤ 999 = small_greatest all h.1 in let first : used.number ≤ 999 = h.0 in omega (arith, more, first)

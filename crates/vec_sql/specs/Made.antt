@@ -1,8 +1,9 @@
 -- What is made of the parts of a statement: what they mean where the parameters are taken, or their first text that spells
 -- no vector.
-use Rattle.std.specs.Prelude.{◌≡◌, ℕ, List, Option, Some, None, Result, Ok, Err, length, ⊤}
+use Rattle.std.specs.Prelude.{◌≡◌, ℕ, List, [], ◌++◌, Option, Some, None, Result, Ok, Err, length, ⊤}
 use Rattle.std.specs.List.{AllByRecursion, flat_map}
 use Rattle.vec_base.specs.declared.refusal.Refusal.{Refusal}
+use Rattle.vec_base.specs.declared.refusal.Refusal.TheVariants as refusals
 use Rattle.vec_base.specs.declared.value.Value.{Value}
 use Rattle.vec_literal.specs.Tokens.{Token}
 use Rattle.grammar.specs.Gives.{refusal_of}
@@ -17,8 +18,9 @@ use Rattle.vec_sql.specs.declared.given.GivenAssign.{GivenAssign}
 use Rattle.vec_sql.specs.declared.given.GivenTerm.{GivenTerm}
 use Rattle.vec_sql.specs.declared.given.GivenTest.{GivenTest}
 use Rattle.vec_sql.specs.declared.given.GivenStatement.{GivenStatement}
-use Rattle.vec_sql.specs.Givens.{Concern, concerns_of, concerns, Use, uses_of, uses, in_test, in_limit}
-use Rattle.vec_sql.specs.Reads.{IsFine, IsFirstBad, IsTaken, AllFine, Means, rule_fault}
+use Rattle.vec_sql.specs.declared.given.GivenStatement.TheVariants as statements
+use Rattle.vec_sql.specs.Givens.{Concern, concerns_of, group_concerns, Use, uses_of, in_test, in_limit}
+use Rattle.vec_sql.specs.Reads.{IsFine, IsFirstBad, IsTaken, Means, rule_fault}
 use Rattle.vec_sql.specs.Statements.{statement}
 
 -- the text is not of the grammar, and the refusal is the one for its failing token
@@ -37,13 +39,6 @@ IsMade all Taken M (Ok y) = AreFine all × (Taken → M y)
 IsMade all Taken M (Err flaws.Memory) = ⊤
 IsMade all Taken M (Err (flaws.Place place)) = IsFirstBad all place
 IsMade all Taken M (Err (flaws.Rule rule)) = ⊥
-
--- the same of a statement, of which the columns may break a rule
-abbrev pub IsStatementMade : List Value → GivenStatement → Result Statement Flaw → Type 0
-IsStatementMade params given (Ok result) = AllFine given × (rule_fault given ≡ None) × (AreTaken params (uses given) → Means params given result)
-IsStatementMade params given (Err flaws.Memory) = ⊤
-IsStatementMade params given (Err (flaws.Place place)) = IsFirstBad (concerns given) place
-IsStatementMade params given (Err (flaws.Rule rule)) = AllFine given × (rule_fault given ≡ Some rule)
 
 abbrev pub test_concerns : GivenTest → List Concern
 test_concerns test = flat_map concerns_of (in_test test)
@@ -73,3 +68,44 @@ limit_concerns limit = flat_map concerns_of (in_limit limit)
 
 abbrev pub limit_uses : Option Given → List Use
 limit_uses limit = flat_map uses_of (in_limit limit)
+
+abbrev pub ordered_concerns : GivenStatement → List Concern
+ordered_concerns (statements.Insert table names groups) = flat_map (group_concerns (length names)) groups
+ordered_concerns (statements.Update table sets terms) = set_concerns sets ++ term_concerns terms
+ordered_concerns (statements.Delete table terms) = term_concerns terms
+ordered_concerns (statements.Select select) = term_concerns select.wanted ++ limit_concerns select.limit
+ordered_concerns (statements.Explain select) = term_concerns select.wanted ++ limit_concerns select.limit
+ordered_concerns other = []
+
+abbrev pub ordered_uses : GivenStatement → List Use
+ordered_uses (statements.Insert table names groups) = group_uses groups
+ordered_uses (statements.Update table sets terms) = set_uses sets ++ term_uses terms
+ordered_uses (statements.Delete table terms) = term_uses terms
+ordered_uses (statements.Select select) = term_uses select.wanted ++ limit_uses select.limit
+ordered_uses (statements.Explain select) = term_uses select.wanted ++ limit_uses select.limit
+ordered_uses other = []
+
+-- what is made of a statement, of which the columns may break a rule
+abbrev pub IsStatementMade : List Value → GivenStatement → Result Statement Flaw → Type 0
+IsStatementMade params given (Ok result) = AreFine (ordered_concerns given) × (rule_fault given ≡ None) × (AreTaken params (ordered_uses given) → Means params given result)
+IsStatementMade params given (Err flaws.Memory) = ⊤
+IsStatementMade params given (Err (flaws.Place place)) = IsFirstBad (ordered_concerns given) place
+IsStatementMade params given (Err (flaws.Rule rule)) = AreFine (ordered_concerns given) × (rule_fault given ≡ Some rule)
+
+-- ---- what is answered
+
+abbrev pub later : Option ℕ → Option ℕ → Option Refusal
+later (Some index) count = Some (refusals.Parameter index)
+later None (Some count) = Some (refusals.Full 12 count)
+later None None = None
+
+abbrev pub unless_later : Option Refusal → Result Statement Refusal → Result Statement Refusal
+unless_later (Some refusal) result = Err refusal
+unless_later None result = result
+
+-- the answer, where these are the faults of the parameters and of the counts
+abbrev pub answered : Result Statement Flaw → Option ℕ → Option ℕ → Result Statement Refusal
+answered (Err flaws.Memory) fault count = Err refusals.WantOfMemory
+answered (Err (flaws.Place place)) fault count = Err (refusals.Syntax place)
+answered (Err (flaws.Rule rule)) fault count = unless_later (later fault count) (Err (refusals.BadSchema rule))
+answered (Ok result) fault count = unless_later (later fault count) (Ok result)

@@ -1,5 +1,5 @@
 -- What is noted of parameters while a statement's values are gone through.
-use Rattle.std.specs.Prelude.{◌≡◌, ℕ, ◌<◌, ◌+◌, Bool, true, false, if◌then◌else◌, nat_lt, max, List, ◌++◌, Option, Some, None, MatchOption}
+use Rattle.std.specs.Prelude.{◌≡◌, ℕ, ◌+◌, Bool, if◌then◌else◌, nat_lt, max, List, ◌++◌, Option, Some, None, MatchOption}
 use Rattle.vec_base.specs.declared.value.Value.{Value}
 use Rattle.vec_sql.specs.declared.parameters.Notes.{Notes}
 use Rattle.vec_sql.specs.Givens.{Use}

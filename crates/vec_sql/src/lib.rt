@@ -18,4 +18,5 @@ mod vector;
 mod write;
 
 pub use given::{Given, GivenAssign, GivenSelect, GivenStatement, GivenTerm, GivenTest, Group};
+pub use read::read_statement;
 pub use write::write_statement;

@@ -98,7 +98,11 @@ fn term_of(alloc: Global, term: &GivenTerm, params: &[Value]) -> Result<Constrai
 }
 
 /// The terms that are given.
-pub(crate) fn terms_of(alloc: Global, givens: &[GivenTerm], params: &[Value]) -> Result<List<Constraint>, Flaw>
+pub(crate) fn terms_of(
+    alloc: Global,
+    givens: &[GivenTerm],
+    params: &[Value],
+) -> Result<List<Constraint>, Flaw>
     ensures { IsMade (term_concerns givens.now) (AreTaken params.now (term_uses givens.now)) (Each (MeansTerm params.now) givens.now) result }
 {
     let mut terms = List::new(alloc);
@@ -119,7 +123,11 @@ fn set_of(alloc: Global, set: &GivenAssign, params: &[Value]) -> Result<Assign, 
 }
 
 /// The columns and their values, as they are given.
-pub(crate) fn sets_of(alloc: Global, givens: &[GivenAssign], params: &[Value]) -> Result<List<Assign>, Flaw>
+pub(crate) fn sets_of(
+    alloc: Global,
+    givens: &[GivenAssign],
+    params: &[Value],
+) -> Result<List<Assign>, Flaw>
     ensures { IsMade (set_concerns givens.now) (AreTaken params.now (set_uses givens.now)) (Each (MeansAssign params.now) givens.now) result }
 {
     let mut sets = List::new(alloc);
@@ -143,7 +151,12 @@ fn row_of(alloc: Global, group: &Group, count: usize, params: &[Value]) -> Resul
 }
 
 /// The values of the rows, each of which has to have as many values as there are names.
-pub(crate) fn rows_of(alloc: Global, groups: &[Group], count: usize, params: &[Value]) -> Result<List<List<Value>>, Flaw>
+pub(crate) fn rows_of(
+    alloc: Global,
+    groups: &[Group],
+    count: usize,
+    params: &[Value],
+) -> Result<List<List<Value>>, Flaw>
     ensures { IsMade (flat_map (group_concerns count) groups.now) (AreTaken params.now (group_uses groups.now)) (Each (MeansGroup params.now) groups.now) result }
 {
     let mut rows = List::new(alloc);

@@ -1,4 +1,5 @@
-ghost use Rattle.std.specs.Prelude.{◌≡◌, ◌++◌, true, length, IfOk};
+ghost use Rattle.std.specs.Prelude.{◌≡◌, ◌++◌, true, length, List as Seq, IfOk};
+ghost use Rattle.vec_base.specs.declared.value.Value.{Value as Given_value};
 ghost use Rattle.std.specs.List.{flat_map, list_all};
 ghost use Rattle.vec0_columns.specs.Columns.{has_name};
 ghost use Rattle.vec_sql.specs.declared.given.GivenStatement.TheVariants as statements;
@@ -66,7 +67,13 @@ fn select_of(alloc: Global, given: &GivenSelect, params: &[Value]) -> Result<Sel
 }
 
 /// The INSERT that is given.
-fn insert_of(alloc: Global, name: &Txt, names: &[Txt], groups: &[Group], params: &[Value]) -> Result<Insert, Flaw>
+fn insert_of(
+    alloc: Global,
+    name: &Txt,
+    names: &[Txt],
+    groups: &[Group],
+    params: &[Value],
+) -> Result<Insert, Flaw>
     ensures { IsMade (flat_map (group_concerns (length names.now)) groups.now) (AreTaken params.now (group_uses groups.now)) (MeansInsert params.now name.now names.now groups.now) result }
 {
     let rows = rows_of(alloc, groups, names.len(), params)?;
@@ -81,7 +88,13 @@ fn insert_of(alloc: Global, name: &Txt, names: &[Txt], groups: &[Group], params:
 
 /// The UPDATE that is given.
 #[tactic(auto, using(crate::proofs::Making::flaw_first, crate::proofs::Making::flaw_second, crate::proofs::Making::fine_both, crate::proofs::Making::taken_first, crate::proofs::Making::taken_second))]
-fn update_of(alloc: Global, name: &Txt, assigns: &[GivenAssign], terms: &[GivenTerm], params: &[Value]) -> Result<Update, Flaw>
+fn update_of(
+    alloc: Global,
+    name: &Txt,
+    assigns: &[GivenAssign],
+    terms: &[GivenTerm],
+    params: &[Value],
+) -> Result<Update, Flaw>
     ensures { IsMade (set_concerns assigns.now ++ term_concerns terms.now) (AreTaken params.now (set_uses assigns.now ++ term_uses terms.now)) (MeansUpdate params.now name.now assigns.now terms.now) result }
 {
     let sets = sets_of(alloc, assigns, params)?;
@@ -95,10 +108,68 @@ fn update_of(alloc: Global, name: &Txt, assigns: &[GivenAssign], terms: &[GivenT
 }
 
 /// The DELETE that is given.
-fn delete_of(alloc: Global, name: &Txt, terms: &[GivenTerm], params: &[Value]) -> Result<Delete, Flaw>
+fn delete_of(
+    alloc: Global,
+    name: &Txt,
+    terms: &[GivenTerm],
+    params: &[Value],
+) -> Result<Delete, Flaw>
     ensures { IsMade (term_concerns terms.now) (AreTaken params.now (term_uses terms.now)) (MeansDelete params.now name.now terms.now) result }
 {
     let wanted = terms_of(alloc, terms, params)?;
     let table = name.copy(alloc)?;
     Ok(Delete { table, wanted })
+}
+
+/// The CREATE that is given.
+fn create_of(alloc: Global, name: &Txt, columns: &[Arg]) -> Result<Statement, Flaw>
+    requires { list_all has_name columns.now ≡ true }
+    ensures { (params : Seq Given_value) → IsStatementMade params (statements.Create name.now columns.now) result }
+{
+    match schema_of(alloc, columns) {
+        Ok(schema) => {
+            let name = name.copy(alloc)?;
+            Ok(Statement::Create(name, schema))
+        }
+        Err(Refusal::BadSchema(rule)) => Err(Flaw::Rule(rule)),
+        Err(_) => Err(Flaw::Memory),
+    }
+}
+
+/// The statement that is given.
+#[tactic(auto, using(crate::proofs::Meant::made_flaw, crate::proofs::Meant::formed_columns))]
+pub(crate) fn statement_of(
+    alloc: Global,
+    given: &GivenStatement,
+    params: &[Value],
+) -> Result<Statement, Flaw>
+    requires { is_formed given.now ≡ true }
+    ensures { IsStatementMade params.now given.now result }
+{
+    match given {
+        GivenStatement::Create(name, columns) => create_of(alloc, name, columns.as_slice()),
+        GivenStatement::Drop(name) => Ok(Statement::Drop(name.copy(alloc)?)),
+        GivenStatement::Insert(name, names, groups) => {
+            let insert = insert_of(alloc, name, names.as_slice(), groups.as_slice(), params)?;
+            Ok(Statement::Insert(insert))
+        }
+        GivenStatement::Update(name, sets, terms) => {
+            let update = update_of(alloc, name, sets.as_slice(), terms.as_slice(), params)?;
+            Ok(Statement::Update(update))
+        }
+        GivenStatement::Delete(name, terms) => {
+            let delete = delete_of(alloc, name, terms.as_slice(), params)?;
+            Ok(Statement::Delete(delete))
+        }
+        GivenStatement::Select(select) => Ok(Statement::Select(select_of(alloc, select, params)?)),
+        GivenStatement::Explain(select) => Ok(Statement::Explain(select_of(
+            alloc, select, params,
+        )?)),
+        GivenStatement::Begin(immediate) => Ok(Statement::Begin(*immediate)),
+        GivenStatement::Commit => Ok(Statement::Commit),
+        GivenStatement::Rollback => Ok(Statement::Rollback),
+        GivenStatement::RollbackTo(name) => Ok(Statement::RollbackTo(name.copy(alloc)?)),
+        GivenStatement::Savepoint(name) => Ok(Statement::Savepoint(name.copy(alloc)?)),
+        GivenStatement::Release(name) => Ok(Statement::Release(name.copy(alloc)?)),
+    }
 }

@@ -1,8 +1,8 @@
-ghost use Rattle.std.specs.Prelude.{◌≡◌, ◌≤◌, true, length, IfOk, MatchBool, MatchOption};
+ghost use Rattle.std.specs.Prelude.{◌≡◌, ◌≤◌, ◌++◌, true, length, IfOk, MatchBool, MatchOption};
 ghost use Rattle.std.specs.List.{flat_map};
 ghost use Rattle.vec_sql.specs.Formed.{is_formed};
 ghost use Rattle.vec_sql.specs.Givens.{bits, int8, uses, uses_of};
-ghost use Rattle.vec_sql.specs.Made.{group_uses, limit_uses, set_uses, term_uses, test_uses};
+ghost use Rattle.vec_sql.specs.Made.{group_uses, limit_uses, ordered_uses, set_uses, term_uses, test_uses};
 ghost use Rattle.vec_sql.specs.Noted.{NotesMore, fault_of, lesser, noted};
 ghost use Rattle.vec_sql.specs.Reads.{IsParameterFault, ParametersFit, Takes, parameter};
 
@@ -26,7 +26,11 @@ impl Notes {
     {
         Notes {
             greatest: self.greatest.max(number),
-            untaken: if taken { self.untaken } else { Some(lesser(number, self.untaken)) },
+            untaken: if taken {
+                self.untaken
+            } else {
+                Some(lesser(number, self.untaken))
+            },
         }
     }
 }
@@ -36,13 +40,7 @@ fn lesser(number: u16, other: Option<u16>) -> u16
     ensures { result ≡ lesser number other }
 {
     match other {
-        Some(other) => {
-            if number < other {
-                number
-            } else {
-                other
-            }
-        }
+        Some(other) => { if number < other { number } else { other } }
         None => number,
     }
 }
@@ -114,7 +112,12 @@ fn note_value(alloc: Global, notes: Notes, given: &Given, params: &[Value]) -> R
 }
 
 /// The notes with what values are given by.
-fn note_values(alloc: Global, notes: Notes, givens: &[Given], params: &[Value]) -> Result<Notes, Memory>
+fn note_values(
+    alloc: Global,
+    notes: Notes,
+    givens: &[Given],
+    params: &[Value],
+) -> Result<Notes, Memory>
     ensures { IfOk result (λ new. NotesMore params.now (flat_map uses_of givens.now) notes new) }
 {
     let mut noted = notes;
@@ -126,7 +129,12 @@ fn note_values(alloc: Global, notes: Notes, givens: &[Given], params: &[Value]) 
 
 /// The notes with the values of a test.
 #[tactic(auto, using(crate::proofs::Noting::one_value))]
-fn note_test(alloc: Global, notes: Notes, test: &GivenTest, params: &[Value]) -> Result<Notes, Memory>
+fn note_test(
+    alloc: Global,
+    notes: Notes,
+    test: &GivenTest,
+    params: &[Value],
+) -> Result<Notes, Memory>
     ensures { IfOk result (λ new. NotesMore params.now (test_uses test.now) notes new) }
 {
     match test {
@@ -137,7 +145,12 @@ fn note_test(alloc: Global, notes: Notes, test: &GivenTest, params: &[Value]) ->
 }
 
 /// The notes with the values of terms.
-fn note_terms(alloc: Global, notes: Notes, terms: &[GivenTerm], params: &[Value]) -> Result<Notes, Memory>
+fn note_terms(
+    alloc: Global,
+    notes: Notes,
+    terms: &[GivenTerm],
+    params: &[Value],
+) -> Result<Notes, Memory>
     ensures { IfOk result (λ new. NotesMore params.now (term_uses terms.now) notes new) }
 {
     let mut noted = notes;
@@ -148,7 +161,12 @@ fn note_terms(alloc: Global, notes: Notes, terms: &[GivenTerm], params: &[Value]
 }
 
 /// The notes with the values that columns are set to.
-fn note_sets(alloc: Global, notes: Notes, sets: &[GivenAssign], params: &[Value]) -> Result<Notes, Memory>
+fn note_sets(
+    alloc: Global,
+    notes: Notes,
+    sets: &[GivenAssign],
+    params: &[Value],
+) -> Result<Notes, Memory>
     ensures { IfOk result (λ new. NotesMore params.now (set_uses sets.now) notes new) }
 {
     let mut noted = notes;
@@ -159,7 +177,12 @@ fn note_sets(alloc: Global, notes: Notes, sets: &[GivenAssign], params: &[Value]
 }
 
 /// The notes with the values of rows.
-fn note_groups(alloc: Global, notes: Notes, groups: &[Group], params: &[Value]) -> Result<Notes, Memory>
+fn note_groups(
+    alloc: Global,
+    notes: Notes,
+    groups: &[Group],
+    params: &[Value],
+) -> Result<Notes, Memory>
     ensures { IfOk result (λ new. NotesMore params.now (group_uses groups.now) notes new) }
 {
     let mut noted = notes;
@@ -167,4 +190,108 @@ fn note_groups(alloc: Global, notes: Notes, groups: &[Group], params: &[Value]) 
         noted = note_values(alloc, noted, group.values.as_slice(), params)?;
     }
     Ok(noted)
+}
+
+/// The notes with the value of LIMIT.
+#[tactic(auto, using(crate::proofs::Noting::no_uses, crate::proofs::Noting::one_value))]
+fn note_limit(
+    alloc: Global,
+    notes: Notes,
+    limit: &Option<Given>,
+    params: &[Value],
+) -> Result<Notes, Memory>
+    ensures { IfOk result (λ new. NotesMore params.now (limit_uses limit.now) notes new) }
+{
+    match limit {
+        Some(given) => note_value(alloc, notes, given, params),
+        None => Ok(notes),
+    }
+}
+
+/// The notes with the values of a SELECT.
+#[tactic(auto, using(crate::proofs::Noting::notes_joined))]
+fn note_select(
+    alloc: Global,
+    notes: Notes,
+    select: &GivenSelect,
+    params: &[Value],
+) -> Result<Notes, Memory>
+    ensures { IfOk result (λ new. NotesMore params.now (term_uses select.now.wanted ++ limit_uses select.now.limit) notes new) }
+{
+    let noted = note_terms(alloc, notes, select.wanted.as_slice(), params)?;
+    note_limit(alloc, noted, &select.limit, params)
+}
+
+/// The notes with the values of an UPDATE.
+#[tactic(auto, using(crate::proofs::Noting::notes_joined))]
+fn note_update(
+    alloc: Global,
+    notes: Notes,
+    sets: &[GivenAssign],
+    terms: &[GivenTerm],
+    params: &[Value],
+) -> Result<Notes, Memory>
+    ensures { IfOk result (λ new. NotesMore params.now (set_uses sets.now ++ term_uses terms.now) notes new) }
+{
+    let noted = note_sets(alloc, notes, sets, params)?;
+    note_terms(alloc, noted, terms, params)
+}
+
+/// The notes with the values of a statement.
+#[tactic(auto, using(crate::proofs::Noting::no_uses))]
+fn note_statement(
+    alloc: Global,
+    notes: Notes,
+    given: &GivenStatement,
+    params: &[Value],
+) -> Result<Notes, Memory>
+    ensures { IfOk result (λ new. NotesMore params.now (ordered_uses given.now) notes new) }
+{
+    match given {
+        GivenStatement::Insert(_, _, groups) => note_groups(
+            alloc,
+            notes,
+            groups.as_slice(),
+            params,
+        ),
+        GivenStatement::Update(_, sets, terms) => {
+            note_update(alloc, notes, sets.as_slice(), terms.as_slice(), params)
+        }
+        GivenStatement::Delete(_, terms) => note_terms(alloc, notes, terms.as_slice(), params),
+        GivenStatement::Select(select) => note_select(alloc, notes, select, params),
+        GivenStatement::Explain(select) => note_select(alloc, notes, select, params),
+        _ => Ok(notes),
+    }
+}
+
+/// The fault that these notes show where so many parameters are given.
+fn fault_of(notes: Notes, count: usize) -> Option<u16>
+    requires { notes.greatest ≤ 999 }
+    ensures { result ≡ fault_of notes count }
+{
+    let greatest = usize::from(notes.greatest);
+    if count < greatest {
+        Some(count as u16 + 1)
+    } else if greatest < count {
+        Some(notes.greatest + 1)
+    } else {
+        notes.untaken
+    }
+}
+
+/// The number of the parameter that is missing, too much, or the least one that is not taken, if there is a fault.
+pub(crate) fn parameter_fault(
+    alloc: Global,
+    given: &GivenStatement,
+    params: &[Value],
+) -> Result<Option<u16>, Memory>
+    requires { is_formed given.now ≡ true }
+    ensures { IfOk result (λ fault. MatchOption fault (ParametersFit params.now (uses given.now)) (IsParameterFault params.now (uses given.now))) }
+{
+    let start = Notes {
+        greatest: 0,
+        untaken: None,
+    };
+    let notes = note_statement(alloc, start, given, params)?;
+    Ok(fault_of(notes, params.len()))
 }

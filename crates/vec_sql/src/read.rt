@@ -4,14 +4,21 @@ ghost use Rattle.grammar.specs.Grammar.{Spells};
 ghost use Rattle.grammar.specs.Parameters.{numbered_tokens};
 ghost use Rattle.vec_sql.specs.declared.given.GivenStatement.{GivenStatement as Spelled};
 ghost use Rattle.vec_sql.specs.Formed.{is_formed};
-ghost use Rattle.vec_sql.specs.Made.{FailsGrammar};
+ghost use Rattle.row_model.specs.declared.statement.Statement.{Statement as Meant};
+ghost use Rattle.vec_sql.specs.Givens.{item_count, items_in, terms_in};
+ghost use Rattle.vec_sql.specs.Made.{FailsGrammar, answered, later, unless_later};
+ghost use Rattle.vec_sql.specs.Reads.{IsRefusal, SpellsStatement, count_fault};
 ghost use Rattle.vec_sql.specs.Statements.{statement};
 
 use crate::body::statement;
+use crate::flaw::Flaw;
 use crate::given::GivenStatement;
+use crate::meaning::statement_of;
+use crate::parameters::parameter_fault;
 use grammar::{Reader, Stop};
+use row_model::{Items, Statement};
 use std::alloc::Global;
-use vec_base::Refusal;
+use vec_base::{List, Refusal, Value};
 
 /// What the text gives, without a look at what it means.
 fn given_of(alloc: Global, text: &[u8]) -> Result<GivenStatement, Refusal>
@@ -31,5 +38,122 @@ fn given_of(alloc: Global, text: &[u8]) -> Result<GivenStatement, Refusal>
         }
         Err(Stop::Here) => Err(reader.refusal(text.len())),
         Err(Stop::Memory) => Err(Refusal::WantOfMemory),
+    }
+}
+
+/// The statement that the text spells, where the parameters have these values, the first of them having the number 1. Names
+/// are in lower case, and TRUE and FALSE are 1 and 0.
+///
+/// Errors, of which the first in this order is answered: `Syntax` with 4,194,304 where the text has more bytes than that, and
+/// with the place of the failing token; `Unsupported` where that token is such a word; `Syntax` with the place of the first
+/// text that spells no vector, or of the parenthesis that closes a row with another number of values than there are names;
+/// `Parameter`; `Full` with the limit 12 where there are more than 64 items or terms; `BadSchema` with the least rule that
+/// is broken. `WantOfMemory` comes at any time.
+pub fn read_statement(
+    alloc: Global,
+    text: &[u8],
+    params: &List<Value>,
+) -> Result<Statement, Refusal>
+    ensures spelled { (statement : Meant) → SpellsStatement text.now params.now statement → (result ≡ Ok statement) ⊎ (result ≡ Err WantOfMemory) }
+    ensures statement { IfOk result (λ statement. SpellsStatement text.now params.now statement) }
+    ensures refusal { IfErr result (λ e. (e ≡ WantOfMemory) ⊎ IsRefusal text.now params.now e) }
+{
+    if text.len() > 4_194_304 {
+        return Err(Refusal::Syntax(4_194_304));
+    }
+    let given = given_of(alloc, text)?;
+    let made = statement_of(alloc, &given, params.as_slice());
+    match parameter_fault(alloc, &given, params.as_slice()) {
+        Ok(fault) => answered(made, fault, count_fault(&given)),
+        Err(_) => Err(Refusal::WantOfMemory),
+    }
+}
+
+/// The answer, where these are the faults of the parameters and of the counts.
+fn answered(
+    made: Result<Statement, Flaw>,
+    fault: Option<u16>,
+    count: Option<u64>,
+) -> Result<Statement, Refusal>
+    ensures { result ≡ answered made fault count }
+{
+    match made {
+        Err(Flaw::Memory) => Err(Refusal::WantOfMemory),
+        Err(Flaw::Place(place)) => Err(Refusal::Syntax(place as u64)),
+        Err(Flaw::Rule(rule)) => unless_later(later(fault, count), Err(Refusal::BadSchema(rule))),
+        Ok(statement) => unless_later(later(fault, count), Ok(statement)),
+    }
+}
+
+/// The refusal for the first of these faults.
+fn later(fault: Option<u16>, count: Option<u64>) -> Option<Refusal>
+    ensures { result ≡ later fault count }
+{
+    match (fault, count) {
+        (Some(index), _) => Some(Refusal::Parameter(index)),
+        (None, Some(count)) => Some(Refusal::Full(12, count)),
+        (None, None) => None,
+    }
+}
+
+/// The refusal, or the result where there is none.
+fn unless_later(
+    refusal: Option<Refusal>,
+    read: Result<Statement, Refusal>,
+) -> Result<Statement, Refusal>
+    ensures { result ≡ unless_later refusal read }
+{
+    match refusal {
+        Some(refusal) => Err(refusal),
+        None => read,
+    }
+}
+
+/// The number of items, or else of terms, where it is over 64.
+fn count_fault(given: &GivenStatement) -> Option<u64>
+    ensures { result ≡ count_fault given.now }
+{
+    let items = items_in(given);
+    let terms = terms_in(given);
+    if items > 64 {
+        Some(items as u64)
+    } else if terms > 64 {
+        Some(terms as u64)
+    } else {
+        None
+    }
+}
+
+/// The number of items of a SELECT that names them.
+fn items_in(given: &GivenStatement) -> usize
+    ensures { result ≡ items_in given.now }
+{
+    match given {
+        GivenStatement::Select(select) => item_count(&select.items),
+        GivenStatement::Explain(select) => item_count(&select.items),
+        _ => 0,
+    }
+}
+
+/// The number of items that are named.
+fn item_count(items: &Items) -> usize
+    ensures { result ≡ item_count items.now }
+{
+    match items {
+        Items::All => 0,
+        Items::Named(names) => names.len(),
+    }
+}
+
+/// The number of terms.
+fn terms_in(given: &GivenStatement) -> usize
+    ensures { result ≡ terms_in given.now }
+{
+    match given {
+        GivenStatement::Update(_, _, terms) => terms.len(),
+        GivenStatement::Delete(_, terms) => terms.len(),
+        GivenStatement::Select(select) => select.wanted.len(),
+        GivenStatement::Explain(select) => select.wanted.len(),
+        _ => 0,
     }
 }

@@ -1,22 +1,14 @@
-use Rattle.std.proofs.Common.{◌≡◌, ℕ, true, false, List, [], ◌∷◌, ◌++◌, length, sym, ◌∙◌, ap, Ok, Err, refl}
-use Rattle.std.specs.Prelude.{codes, ◌&&◌}
-use Rattle.std.specs.List.{list_all}
+use Rattle.std.proofs.Common.{List, [], ◌∷◌, ◌++◌, sym, ◌∙◌, ap, Err}
 use Rattle.std.proofs.lemmas.Result.{err_from_is_err_and}
-use Rattle.vec_base.specs.Words.{is_name}
-use Rattle.vec_literal.specs.Tokens.{Token}
 use Rattle.grammar.specs.Gives.{rest_of}
-use Rattle.grammar.specs.Grammar.{many, sign, keyword, a_name}
-use Rattle.grammar.specs.Reading.{read, starts, nullable, next_in}
-use Rattle.grammar.proofs.Loops.{with_front, takes_some, many_step, many_fails, many_ends, fails_as, list_first, list_none}
-use Rattle.row_model.specs.WellFormed.{is_filled}
-use Rattle.vec_sql.specs.declared.given.Given.{Given}
-use Rattle.vec_sql.specs.declared.given.Group.{Group}
+use Rattle.grammar.specs.Grammar.{many}
+use Rattle.grammar.specs.Reading.{read}
+use Rattle.grammar.proofs.Loops.{with_front, takes_some, many_step, many_fails, many_ends, fails_as}
 use Rattle.vec_sql.specs.declared.given.GivenAssign.{GivenAssign}
-use Rattle.vec_sql.specs.declared.given.GivenTerm.{GivenTerm}
-use Rattle.vec_sql.specs.Statements.{value, group, assignment}
-use Rattle.vec_sql.specs.Factored.{names_list, values_list, groups_list, assignments_list, terms_list, more_names, more_values, more_groups, more_assignments, more_terms, factored_term}
-use Rattle.vec_sql.specs.Formed.{are_names, is_formed_value, is_formed_group, is_formed_set, is_formed_term}
-use Rattle.vec_sql.proofs.Lists.{assignments_first, assignments_none, more_assignments_some, more_assignments_starts, filled_pushed, all_pushed, all_started, both_pushed, both_started}
+use Rattle.vec_sql.specs.Statements.{assignment}
+use Rattle.vec_sql.specs.Factored.{assignments_list, more_assignments}
+use Rattle.vec_sql.specs.Formed.{is_formed_set}
+use Rattle.vec_sql.proofs.Lists.{assignments_first, assignments_none, more_assignments_some, more_assignments_starts, both_pushed, both_started}
 use Rattle.vec_sql.proofs.list.assignments.Goals as goal
 
 pub returns-in_err-first-clause-reads : goal.returns-in_err-first-clause-reads

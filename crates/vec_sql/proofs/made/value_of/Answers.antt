@@ -1,6 +1,4 @@
-use Rattle.std.proofs.Common.{◌∙◌, None, subst, List, Option, ℕ}
-use Rattle.std.specs.Prelude.{MatchOption}
-use Rattle.vec_literal.specs.Int8.{SpellsInt8}
+use Rattle.std.proofs.Common.{◌∙◌}
 use Rattle.vec_sql.proofs.Making.{bad_text, none_spelled}
 use Rattle.vec_sql.proofs.made.value_of.Goals as goal
 

@@ -1,8 +1,7 @@
-use Rattle.std.proofs.Common.{◌≡◌, ◌++◌, List, Option, Err, Result, sym, ◌∙◌, ap, subst}
+use Rattle.std.proofs.Common.{◌++◌, List, Option, Err, Result, sym, ◌∙◌, ap, subst}
 use Rattle.std.proofs.lemmas.Result.{err_from_is_err_and}
 use Rattle.vec_base.specs.declared.value.Value.{Value}
 use Rattle.row_model.specs.declared.statement.Select.{Select}
-use Rattle.row_model.specs.declared.statement.Constraint.{Constraint}
 use Rattle.vec_sql.specs.declared.flaw.Flaw.{Flaw}
 use Rattle.vec_sql.specs.declared.given.GivenTerm.{GivenTerm}
 use Rattle.vec_sql.specs.Made.{AreFine, AreTaken, IsMade, term_concerns, term_uses, limit_concerns, limit_uses}

@@ -1,4 +1,4 @@
-use Rattle.std.proofs.Common.{◌≡◌, ◌++◌, List, Err, Result, sym, ◌∙◌, ap, subst}
+use Rattle.std.proofs.Common.{◌++◌, List, Err, Result, sym, ◌∙◌, ap, subst}
 use Rattle.std.proofs.lemmas.Result.{err_from_is_err_and}
 use Rattle.row_model.specs.declared.statement.Update.{Update}
 use Rattle.row_model.specs.declared.statement.Constraint.{Constraint}

@@ -1,4 +1,4 @@
-use Rattle.std.proofs.Common.{◌≡◌, List, sym, ◌∙◌, ap, inl, inr, Ok}
+use Rattle.std.proofs.Common.{List, sym, ◌∙◌, ap, inl, inr, Ok}
 use Rattle.std.proofs.lemmas.Bool.{MatchBool-at_true, MatchBool-at_false}
 use Rattle.vec_literal.specs.Tokens.{Token}
 use Rattle.grammar.specs.Gives.{rest_of}
@@ -25,9 +25,12 @@ returns-else-is_done-clause-only c given s =
 
 pub returns-else-is_done-clause-refusal : goal.returns-else-is_done-clause-refusal
 returns-else-is_done-clause-refusal c =
-    inr (rest_of c.statement.new.reader, (more_left (numbered_tokens c.args.text.now) (rest_of c.statement.new.reader) c.in-Ok.given
-    (ap (λ (z : List Token). read factored_statement z) (sym c.with_parameters-reader.ensures) ∙ c.in-Ok.ensures.reads) (MatchBool-at_false _ _ c.if-is_done.false c.is_done.ensures)),
-    c.refusal.ensures)
+    inr (
+      rest_of c.statement.new.reader,
+      (more_left (numbered_tokens c.args.text.now) (rest_of c.statement.new.reader) c.in-Ok.given
+          (ap (λ (z : List Token). read factored_statement z) (sym c.with_parameters-reader.ensures) ∙ c.in-Ok.ensures.reads) (MatchBool-at_false _ _ c.if-is_done.false c.is_done.ensures)),
+      c.refusal.ensures,
+    )
 
 pub returns-in-Err-Here-clause-only : goal.returns-in-Err-Here-clause-only
 returns-in-Err-Here-clause-only c given s =
@@ -36,6 +39,9 @@ returns-in-Err-Here-clause-only c given s =
 
 pub returns-in-Err-Here-clause-refusal : goal.returns-in-Err-Here-clause-refusal
 returns-in-Err-Here-clause-refusal c =
-    inr (rest_of c.statement.new.reader, stopped (numbered_tokens c.args.text.now) (rest_of c.statement.new.reader)
-    (ap (λ (z : List Token). read factored_statement z) (sym c.with_parameters-reader.ensures) ∙ (rw c.in-Err-Here.field-0-is at c.in-Err-Here.ensures.reads)),
-    c.refusal-in-Err-Here.ensures)
+    inr (
+      rest_of c.statement.new.reader,
+      stopped (numbered_tokens c.args.text.now) (rest_of c.statement.new.reader)
+          (ap (λ (z : List Token). read factored_statement z) (sym c.with_parameters-reader.ensures) ∙ (rw c.in-Err-Here.field-0-is at c.in-Err-Here.ensures.reads)),
+      c.refusal-in-Err-Here.ensures,
+    )
