@@ -17,10 +17,10 @@ pub record LexemesSpell {A : Type 0} (p : Part A) (ls : List Lexeme) (v : A) : T
 -- ---- one token
 
 -- tokens with one lexeme are one token with it
-record OneToken (ts : List Token) (l : Lexeme) : Type 0 where
-  token : Token
-  whole : ts ≡ token ∷ []
-  same : lexeme_of token ≡ l
+pub record OneToken (ts : List Token) (l : Lexeme) : Type 0 where
+  pub token : Token
+  pub whole : ts ≡ token ∷ []
+  pub same : lexeme_of token ≡ l
 
 abbrev first_lexeme : Lexeme → List Lexeme → Lexeme
 first_lexeme l [] = l
@@ -30,7 +30,7 @@ abbrev rest_lexemes : List Lexeme → List Lexeme
 rest_lexemes [] = []
 rest_lexemes (m ∷ ms) = ms
 
-one_token : (ts : List Token) (l : Lexeme) → map lexeme_of ts ≡ l ∷ [] → OneToken ts l
+pub one_token : (ts : List Token) (l : Lexeme) → map lexeme_of ts ≡ l ∷ [] → OneToken ts l
 one_token [] l h = absurd cc
 one_token (t ∷ []) l h = record { token = t; whole = refl; same = ap (λ ls. first_lexeme l ls) h }
 one_token (t ∷ u ∷ ts) l h = absurd (let e : lexeme_of u ∷ map lexeme_of ts ≡ [] = ap (λ ls. rest_lexemes ls) h in cc)
@@ -44,14 +44,14 @@ of_token c f l v h = record {
 -- ---- parts put together
 
 -- tokens with joined lexemes are joined
-record SplitTokens (ts : List Token) (ls ms : List Lexeme) : Type 0 where
-  front : List Token
-  rest : List Token
-  whole : ts ≡ front ++ rest
-  first : map lexeme_of front ≡ ls
-  second : map lexeme_of rest ≡ ms
+pub record SplitTokens (ts : List Token) (ls ms : List Lexeme) : Type 0 where
+  pub front : List Token
+  pub rest : List Token
+  pub whole : ts ≡ front ++ rest
+  pub first : map lexeme_of front ≡ ls
+  pub second : map lexeme_of rest ≡ ms
 
-split_tokens : (ts : List Token) (ls ms : List Lexeme) → map lexeme_of ts ≡ ls ++ ms → SplitTokens ts ls ms
+pub split_tokens : (ts : List Token) (ls ms : List Lexeme) → map lexeme_of ts ≡ ls ++ ms → SplitTokens ts ls ms
 split_tokens ts [] ms h = record { front = []; rest = ts; whole = refl; first = refl; second = h }
 split_tokens [] (l ∷ ls) ms h = absurd cc
 split_tokens (t ∷ ts) (l ∷ ls) ms h =
@@ -87,7 +87,7 @@ of_left a = record { told = λ ts e. inl (a.told ts e) }
 pub of_right : {A : Type 0} {p q : Part A} {ls : List Lexeme} {v : A} → LexemesSpell q ls v → LexemesSpell (alt p q) ls v
 of_right a = record { told = λ ts e. inr (a.told ts e) }
 
-no_tokens : (ts : List Token) → map lexeme_of ts ≡ [] → ts ≡ []
+pub no_tokens : (ts : List Token) → map lexeme_of ts ≡ [] → ts ≡ []
 no_tokens [] h = refl
 no_tokens (t ∷ ts) h = absurd cc
 

@@ -50,10 +50,10 @@ some_kept None t ts h = cc
 some_kept (Some g) t ts h = cc
 
 -- a token that is no parameter is not plain
-not_plain : (t : Token) → is_sort sorts.Param t.sort ≡ false → is_plain t ≡ false
+pub not_plain : (t : Token) → is_sort sorts.Param t.sort ≡ false → is_plain t ≡ false
 not_plain t h = and_left _ _ h
 
-unnumbered : (n : ℕ) (t : Token) → is_plain t ≡ false → with_number n t ≡ t
+pub unnumbered : (n : ℕ) (t : Token) → is_plain t ≡ false → with_number n t ≡ t
 unnumbered n t h = ap (λ (z : List ℕ). record t { spelling = z }) (cond-false (is_plain t && nat_le n 999) (codes "?" ++ decimal n) t.spelling (and_left _ _ h))
 
 pub first_kept : (o : Option ℕ) (ts : List Token) → is_sort sorts.Param (first_of (numbered_from o ts)).sort ≡ false → first_of (numbered_from o ts) ≡ first_of ts
@@ -64,7 +64,7 @@ first_kept (Some g) (t ∷ ts) h = unnumbered (suc g) t (not_plain t h)
 
 -- ---- one token on
 
-no_parameter_after : (g : ℕ) (t : Token) → is_sort sorts.Param t.sort ≡ false → greatest_after g t ≡ g
+pub no_parameter_after : (g : ℕ) (t : Token) → is_sort sorts.Param t.sort ≡ false → greatest_after g t ≡ g
 no_parameter_after g t h =
     cond-false (is_plain t) (suc g) (if is_sort sorts.Param t.sort then max g (parameter_number t) else g) (not_plain t h) ∙
     cond-false (is_sort sorts.Param t.sort) (max g (parameter_number t)) g h

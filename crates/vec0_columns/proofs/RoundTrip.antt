@@ -23,11 +23,11 @@ use Rattle.vec0_columns.specs.declared.text.Spelled.{Spelled}
 use Rattle.vec0_columns.specs.declared.text.Spelled.TheVariants.{Int8, Bits, Plain}
 use Rattle.vec0_columns.specs.declared.text.Arg.{Arg}
 use Rattle.vec0_columns.specs.declared.text.Arg.TheVariants as args
-use Rattle.vec0_columns.specs.CanonicalLexemes.{size_lexemes, declared_lexemes, column_lexemes}
+use Rattle.vec0_columns.specs.CanonicalLexemes.{size_lexemes, declared_lexemes, column_lexemes, canonical_lexemes}
 use Rattle.vec0_columns.specs.Columns.{Declares, integer_word, boolean_word, text_word, blob_word, stands_for, primary_key, partition_key, metric, vector, int8, bits, column, auxiliary, chunk_size, arg, columns, columns_of, sizes_of, schema_of, is_bits_with_metric, is_size, text_fault, least, rule_where, kind_of, first_or}
 use Rattle.vec0_columns.specs.Parts.{spelled_kind, column_part, parts_of}
 use Rattle.vec0_columns.proofs.Lengths.{canonical_short}
-use Rattle.vec0_columns.proofs.Written.{has_sizes, neither, width_int8, width_bits, chunk_few, lexemes_of_canonical}
+use Rattle.vec0_columns.proofs.Written.{has_sizes, neither, width_int8, width_bits, chunk_few, size_last, lexemes_of_canonical}
 
 -- ---- names
 
@@ -50,7 +50,7 @@ small_name (b ∷ bs) h =
     small_bytes (b ∷ bs) (and_from _ _ (small_letter_byte b p.0) p.1)
 
 -- a name of a column is a name of the grammar
-name_spelled : (word : List ℕ) → is_name word ≡ true → LexemesSpell a_name (word_lexeme word ∷ []) word
+pub name_spelled : (word : List ℕ) → is_name word ≡ true → LexemesSpell a_name (word_lexeme word ∷ []) word
 name_spelled word h =
     let p = and_parts (is_small_word word && nat_le (length word) 64) (not (is_reserved word)) h in
     let q = and_parts (is_small_word word) (nat_le (length word) 64) p.0 in
@@ -158,18 +158,14 @@ line_spelled word BlobAux n i b =
 
 -- ---- the whole text
 
--- the lexemes of the chunk size
-abbrev last_lexemes : ℕ → List Lexeme
-last_lexemes n = word_lexeme (codes "chunk_size") ∷ mark_lexeme (codes "=") ∷ number_lexeme (decimal n) ∷ []
-
-size_spelled : (n : ℕ) → n ≤ 4096 → LexemesSpell arg (last_lexemes n) (args.ChunkSize n)
+size_spelled : (n : ℕ) → n ≤ 4096 → LexemesSpell arg (size_last n) (args.ChunkSize n)
 unfolding arg chunk_size
 size_spelled n few =
-    let given : LexemesSpell (a_word (codes "CHUNK_SIZE") ▸ a_mark (codes "=") ▸ a_number) (last_lexemes n) n =
+    let given : LexemesSpell (a_word (codes "CHUNK_SIZE") ▸ a_mark (codes "=") ▸ a_number) (size_last n) n =
     of_second (a_word (codes "CHUNK_SIZE")) (a_mark (codes "=") ▸ a_number) (word_lexeme (codes "chunk_size") ∷ []) (mark_lexeme (codes "=") ∷ number_lexeme (decimal n) ∷ []) tt n (of_word (codes "CHUNK_SIZE") (codes "chunk_size") refl)
     (of_second (a_mark (codes "=")) a_number (mark_lexeme (codes "=") ∷ []) (number_lexeme (decimal n) ∷ []) tt n (of_mark (codes "=") refl) (of_number n (omega arith))) in
-    let line : LexemesSpell (means (λ k. args.ChunkSize k) (a_word (codes "CHUNK_SIZE") ▸ a_mark (codes "=") ▸ a_number)) (last_lexemes n) (args.ChunkSize n) =
-    of_means (λ k. args.ChunkSize k) (a_word (codes "CHUNK_SIZE") ▸ a_mark (codes "=") ▸ a_number) (last_lexemes n) n given in
+    let line : LexemesSpell (means (λ k. args.ChunkSize k) (a_word (codes "CHUNK_SIZE") ▸ a_mark (codes "=") ▸ a_number)) (size_last n) (args.ChunkSize n) =
+    of_means (λ k. args.ChunkSize k) (a_word (codes "CHUNK_SIZE") ▸ a_mark (codes "=") ▸ a_number) (size_last n) n given in
     of_right (of_right (of_right (of_right (of_right (of_right (of_right (of_right (of_right (of_right (of_right (of_right line)))))))))))
 
 -- what the columns and the chunk size are to keep
@@ -209,28 +205,32 @@ abbrev parts : List Column → ℕ → List Arg
 parts cs n = map column_part cs ++ args.ChunkSize n ∷ []
 
 -- the parts behind a comma
-many_spelled : (cs : List Column) (n : ℕ) → AreKept cs n → LexemesSpell (many later) (mark_lexeme (codes ",") ∷ (flat cs ++ last_lexemes n)) (parts cs n)
+many_spelled : (cs : List Column) (n : ℕ) → AreKept cs n → LexemesSpell (many later) (mark_lexeme (codes ",") ∷ (flat cs ++ size_last n)) (parts cs n)
 many_spelled [] n kept =
-    of_more later (mark_lexeme (codes ",") ∷ last_lexemes n) [] (args.ChunkSize n) [] (later_spelled (last_lexemes n) (args.ChunkSize n) (size_spelled n kept.size)) (of_nothing later)
+    of_more later (mark_lexeme (codes ",") ∷ size_last n) [] (args.ChunkSize n) [] (later_spelled (size_last n) (args.ChunkSize n) (size_spelled n kept.size)) (of_nothing later)
 many_spelled (c ∷ cs) n kept =
-    subst (λ (z : List Lexeme). LexemesSpell (many later) (mark_lexeme (codes ",") ∷ z) (parts (c ∷ cs) n)) (sym (flat_more c cs (last_lexemes n)))
-    (of_more later (mark_lexeme (codes ",") ∷ column_lexemes c) (mark_lexeme (codes ",") ∷ (flat cs ++ last_lexemes n)) (column_part c) (parts cs n)
+    subst (λ (z : List Lexeme). LexemesSpell (many later) (mark_lexeme (codes ",") ∷ z) (parts (c ∷ cs) n)) (sym (flat_more c cs (size_last n)))
+    (of_more later (mark_lexeme (codes ",") ∷ column_lexemes c) (mark_lexeme (codes ",") ∷ (flat cs ++ size_last n)) (column_part c) (parts cs n)
     (later_spelled (column_lexemes c) (column_part c) (first_spelled c cs n kept)) (many_spelled cs n (rest_kept c cs n kept)))
 
-columns_spelled : (cs : List Column) (n : ℕ) → AreKept cs n → LexemesSpell columns (flat cs ++ last_lexemes n) (parts cs n)
+columns_spelled : (cs : List Column) (n : ℕ) → AreKept cs n → LexemesSpell columns (flat cs ++ size_last n) (parts cs n)
 unfolding columns
 columns_spelled [] n kept =
-    of_means (λ x. x.0 ∷ x.1) (seq arg (many later)) (last_lexemes n) (args.ChunkSize n, [])
-    (of_seq arg (many later) (last_lexemes n) [] (args.ChunkSize n) [] (size_spelled n kept.size) (of_nothing later))
+    of_means (λ x. x.0 ∷ x.1) (seq arg (many later)) (size_last n) (args.ChunkSize n, [])
+    (of_seq arg (many later) (size_last n) [] (args.ChunkSize n) [] (size_spelled n kept.size) (of_nothing later))
 columns_spelled (c ∷ cs) n kept =
-    subst (λ (z : List Lexeme). LexemesSpell (means (λ x. x.0 ∷ x.1) (seq arg (many later))) z (parts (c ∷ cs) n)) (sym (flat_more c cs (last_lexemes n)))
-    (of_means (λ x. x.0 ∷ x.1) (seq arg (many later)) (column_lexemes c ++ mark_lexeme (codes ",") ∷ (flat cs ++ last_lexemes n)) (column_part c, parts cs n)
-    (of_seq arg (many later) (column_lexemes c) (mark_lexeme (codes ",") ∷ (flat cs ++ last_lexemes n)) (column_part c) (parts cs n) (first_spelled c cs n kept) (many_spelled cs n (rest_kept c cs n kept))))
+    subst (λ (z : List Lexeme). LexemesSpell (means (λ x. x.0 ∷ x.1) (seq arg (many later))) z (parts (c ∷ cs) n)) (sym (flat_more c cs (size_last n)))
+    (of_means (λ x. x.0 ∷ x.1) (seq arg (many later)) (column_lexemes c ++ mark_lexeme (codes ",") ∷ (flat cs ++ size_last n)) (column_part c, parts cs n)
+    (of_seq arg (many later) (column_lexemes c) (mark_lexeme (codes ",") ∷ (flat cs ++ size_last n)) (column_part c) (parts cs n) (first_spelled c cs n kept) (many_spelled cs n (rest_kept c cs n kept))))
 
 kept_by : (schema : Schema) → IsValidSchema schema → AreKept schema.columns schema.chunk_size
 kept_by schema valid =
     let sizes = has_sizes schema valid.rules in
     record { names = valid.names; bytes = sizes.bytes; bits = sizes.bits; size = chunk_few schema.chunk_size sizes.chunk }
+
+-- the canonical lexemes spell the parts of the schema
+pub canonical_spelled : (schema : Schema) → IsValidSchema schema → LexemesSpell columns (canonical_lexemes schema) (parts_of schema)
+canonical_spelled schema valid = columns_spelled schema.columns schema.chunk_size (kept_by schema valid)
 
 -- ---- the schema of the parts
 
@@ -257,7 +257,7 @@ sizes_back : (cs : List Column) (n : ℕ) → sizes_of (parts cs n) ≡ n ∷ []
 sizes_back [] n = refl
 sizes_back (c ∷ cs) n = sizes_back cs n
 
-schema_back : (schema : Schema) → schema_of (parts_of schema) ≡ schema
+pub schema_back : (schema : Schema) → schema_of (parts_of schema) ≡ schema
 schema_back schema =
     ap (λ (z : List Column). record { columns = z; chunk_size = first_or 1024 (sizes_of (parts_of schema)) }) (columns_back schema.columns schema.chunk_size)
     ∙ ap (λ (z : List ℕ). record { columns = schema.columns; chunk_size = first_or 1024 z }) (sizes_back schema.columns schema.chunk_size)
@@ -284,7 +284,7 @@ one_size : (cs : List Column) (n : ℕ) → count_by is_size (parts cs n) ≡ 1
 one_size [] n = refl
 one_size (c ∷ cs) n = omega (arith, one_size cs n)
 
-no_fault : (schema : Schema) → schema_fault schema ≡ None → text_fault (parts_of schema) ≡ None
+pub no_fault : (schema : Schema) → schema_fault schema ≡ None → text_fault (parts_of schema) ≡ None
 no_fault schema h =
     let cs : List Column = schema.columns in
     let n : ℕ = schema.chunk_size in
@@ -299,7 +299,7 @@ canonical_declares : (schema : Schema) → IsValidSchema schema → Declares (ca
 canonical_declares schema valid = record {
   within = canonical_short schema valid;
   parts = parts_of schema;
-  spelled = (columns_spelled schema.columns schema.chunk_size (kept_by schema valid)).told (tokens (canonical_columns schema) 0) (lexemes_of_canonical schema valid);
+  spelled = (canonical_spelled schema valid).told (tokens (canonical_columns schema) 0) (lexemes_of_canonical schema valid);
   rules = no_fault schema valid.rules;
   declared = sym (schema_back schema);
 }

@@ -20,7 +20,7 @@ use Rattle.vec_literal.specs.Lexemes.{Lexeme, lexemes, word_lexeme, number_lexem
 use Rattle.vec_literal.specs.Stretches.{is_pair}
 use Rattle.vec_literal.specs.Tokens.{is_letter, is_word_byte, is_word_text, is_number_text}
 use Rattle.vec_literal.proofs.Decimals.{decimal_number}
-use Rattle.vec_literal.proofs.Following.{HasTokens, whole_text, has_nothing, space_before, word_before, number_before, mark_before, ends_word, unpaired}
+use Rattle.vec_literal.proofs.Following.{HasTokens, whole_text, has_nothing, space_before, word_before, number_before, mark_before, ends_word, stops, unpaired}
 use Rattle.vec0_columns.specs.CanonicalLexemes.{size_lexemes, declared_lexemes, column_lexemes, canonical_lexemes}
 
 -- ---- names are words
@@ -35,7 +35,7 @@ name_bytes : (bs : List ℕ) → list_all is_name_byte bs ≡ true → list_all 
 name_bytes [] h = refl
 name_bytes (b ∷ bs) h = let p = and_parts (is_name_byte b) (list_all is_name_byte bs) h in and_from _ _ (name_byte b p.0) (name_bytes bs p.1)
 
-small_word : (name : List ℕ) → is_small_word name ≡ true → is_word_text name ≡ true
+pub small_word : (name : List ℕ) → is_small_word name ≡ true → is_word_text name ≡ true
 small_word [] h = absurd cc
 small_word (b ∷ bs) h = let p = and_parts (is_small_letter b) (list_all is_name_byte bs) h in and_from _ _ (small_letter b p.0) (name_bytes bs p.1)
 
@@ -193,17 +193,19 @@ columns_before (c ∷ cs) tail words n i b h =
 equals_digit : (d : ℕ) → is_ascii_digit d ≡ true → is_pair 61 d ≡ false
 equals_digit d h = grind (arith, nat_tests)
 
-equals_number : (digits : List ℕ) → is_number_text digits ≡ true → unpaired 61 digits ≡ true
-equals_number [] h = refl
-equals_number (d ∷ ds) h = not_from_false (is_pair 61 d) (equals_digit d (and_parts (is_ascii_digit d) (list_all is_ascii_digit ds) h).0)
+equals_number : (digits rest : List ℕ) → is_number_text digits ≡ true → unpaired 61 (digits ++ rest) ≡ true
+equals_number [] rest h = absurd cc
+equals_number (d ∷ ds) rest h = not_from_false (is_pair 61 d) (equals_digit d (and_parts (is_ascii_digit d) (list_all is_ascii_digit ds) h).0)
 
-chunk_size_text : (size : ℕ) → size ≤ 4096 → HasTokens (codes "chunk_size=" ++ decimal size) (word_lexeme (codes "chunk_size") ∷ mark_lexeme (codes "=") ∷ number_lexeme (decimal size) ∷ [])
-chunk_size_text size few =
+-- the lexemes of the chunk size
+abbrev pub size_last : ℕ → List Lexeme
+size_last size = word_lexeme (codes "chunk_size") ∷ mark_lexeme (codes "=") ∷ number_lexeme (decimal size) ∷ []
+
+chunk_size_before : (size : ℕ) (rest : List ℕ) (words : List Lexeme) → size ≤ 4096 → stops is_ascii_digit rest ≡ true → HasTokens rest words → HasTokens ((codes "chunk_size=" ++ decimal size) ++ rest) (size_last size ++ words)
+chunk_size_before size rest words few e h =
     let spelled : is_number_text (decimal size) ≡ true = decimal_number size (omega arith) in
-    let number : HasTokens (decimal size) (number_lexeme (decimal size) ∷ []) =
-    subst (λ (z : List ℕ). HasTokens z (number_lexeme (decimal size) ∷ [])) (append-nil (decimal size)) (number_before (decimal size) [] [] spelled refl has_nothing) in
-    word_before (codes "chunk_size") (61 ∷ decimal size) (mark_lexeme (codes "=") ∷ number_lexeme (decimal size) ∷ []) refl refl
-    (mark_before 61 (decimal size) (number_lexeme (decimal size) ∷ []) refl (equals_number (decimal size) spelled) number)
+    word_before (codes "chunk_size") (61 ∷ (decimal size ++ rest)) (mark_lexeme (codes "=") ∷ number_lexeme (decimal size) ∷ words) refl refl
+    (mark_before 61 (decimal size ++ rest) (number_lexeme (decimal size) ∷ words) refl (equals_number (decimal size) rest spelled) (number_before (decimal size) rest words spelled e h))
 
 -- ---- the whole text
 
@@ -248,13 +250,21 @@ has_sizes schema h = record {
 pub chunk_few : (size : ℕ) → is_misfit_chunk size ≡ false → size ≤ 4096
 chunk_few size h = grind (arith, nat_tests)
 
-pub lexemes_of_canonical : (schema : Schema) → IsValidSchema schema → lexemes (canonical_columns schema) ≡ canonical_lexemes schema
-lexemes_of_canonical schema valid =
+-- the canonical text in front of some bytes
+pub canonical_before : (schema : Schema) (rest : List ℕ) (words : List Lexeme) → IsValidSchema schema → stops is_ascii_digit rest ≡ true → HasTokens rest words → HasTokens (canonical_columns schema ++ rest) (canonical_lexemes schema ++ words)
+canonical_before schema rest words valid e h =
     let sizes = has_sizes schema valid.rules in
     let columns : List ℕ = flat_map (λ column. column_text column ++ codes ", ") schema.columns in
+    let words_first : List Lexeme = flat_map (λ column. column_lexemes column ++ mark_lexeme (codes ",") ∷ []) schema.columns in
     let last : List ℕ = codes "chunk_size=" ++ decimal schema.chunk_size in
-    let text : HasTokens (columns ++ last) (canonical_lexemes schema) =
-    columns_before schema.columns last (word_lexeme (codes "chunk_size") ∷ mark_lexeme (codes "=") ∷ number_lexeme (decimal schema.chunk_size) ∷ [])
-    valid.names sizes.bytes sizes.bits (chunk_size_text schema.chunk_size (chunk_few schema.chunk_size sizes.chunk)) in
+    let text : HasTokens (columns ++ (last ++ rest)) (words_first ++ (size_last schema.chunk_size ++ words)) =
+    columns_before schema.columns (last ++ rest) (size_last schema.chunk_size ++ words) valid.names sizes.bytes sizes.bits
+    (chunk_size_before schema.chunk_size rest words (chunk_few schema.chunk_size sizes.chunk) e h) in
+    subst (λ (z : List ℕ). HasTokens z (canonical_lexemes schema ++ words)) (sym (append_assoc (columns ++ codes "chunk_size=") (decimal schema.chunk_size) rest ∙ append_assoc columns (codes "chunk_size=") (decimal schema.chunk_size ++ rest)))
+    (subst (λ (z : List Lexeme). HasTokens (columns ++ (last ++ rest)) z) (sym (append_assoc words_first (size_last schema.chunk_size) words)) text)
+
+pub lexemes_of_canonical : (schema : Schema) → IsValidSchema schema → lexemes (canonical_columns schema) ≡ canonical_lexemes schema
+lexemes_of_canonical schema valid =
     whole_text (canonical_columns schema) (canonical_lexemes schema)
-    (subst (λ (z : List ℕ). HasTokens z (canonical_lexemes schema)) (sym (append_assoc columns (codes "chunk_size=") (decimal schema.chunk_size))) text)
+    (subst (λ (z : List ℕ). HasTokens z (canonical_lexemes schema)) (append-nil (canonical_columns schema))
+    (subst (λ (z : List Lexeme). HasTokens (canonical_columns schema ++ []) z) (append-nil (canonical_lexemes schema)) (canonical_before schema [] [] valid refl has_nothing)))

@@ -118,7 +118,7 @@ digit_same : (c v : ℕ) → hex_digit_value c ≡ Some v → digit_value c ≡ 
 digit_same c v h = grind (arith, nat_tests)
 
 -- the pairs before a quote
-pairs_front : (digits bytes : List ℕ) → SpellsBits digits bytes → paired_bytes (digits ++ 39 ∷ []) ≡ bytes
+pub pairs_front : (digits bytes : List ℕ) → SpellsBits digits bytes → paired_bytes (digits ++ 39 ∷ []) ≡ bytes
 pairs_front [] [] h = refl
 pairs_front (high ∷ low ∷ digits) (b ∷ bytes) (h, l, rest) =
     let first = digit_same high (b / 16) h in

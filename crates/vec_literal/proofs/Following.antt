@@ -40,18 +40,18 @@ moved front rest words h before =
     ∙ h.behind (before ++ front)
 
 -- the byte behind a front
-at_seam : (before : List ℕ) (b : ℕ) (bs : List ℕ) → get_or (before ++ b ∷ bs) (length before) 0 ≡ b
+pub at_seam : (before : List ℕ) (b : ℕ) (bs : List ℕ) → get_or (before ++ b ∷ bs) (length before) 0 ≡ b
 at_seam [] b bs = refl
 at_seam (x ∷ xs) b bs = at_seam xs b bs
 
 -- and the next one
-past_seam : (before : List ℕ) (b c : ℕ) (bs : List ℕ) → get_or (before ++ b ∷ c ∷ bs) (length before + 1) 0 ≡ c
+pub past_seam : (before : List ℕ) (b c : ℕ) (bs : List ℕ) → get_or (before ++ b ∷ c ∷ bs) (length before + 1) 0 ≡ c
 past_seam [] b c bs = refl
 past_seam (x ∷ xs) b c bs =
     let next : length (x ∷ xs) + 1 ≡ suc (length xs + 1) = omega arith in
     ap (λ (z : ℕ). get_or (x ∷ (xs ++ b ∷ c ∷ bs)) z 0) next ∙ past_seam xs b c bs
 
-longer : (before : List ℕ) (b : ℕ) (bs : List ℕ) → length before + suc (length bs) ≡ length (before ++ b ∷ bs)
+pub longer : (before : List ℕ) (b : ℕ) (bs : List ℕ) → length before + suc (length bs) ≡ length (before ++ b ∷ bs)
 longer before b bs = sym (length-append before (b ∷ bs))
 
 -- ---- a space
@@ -74,10 +74,10 @@ space_before rest words h = record {
 -- ---- a token
 
 -- the token of a front
-abbrev found : TokenSort → List ℕ → List ℕ → Found
+abbrev pub found : TokenSort → List ℕ → List ℕ → Found
 found sort before front = record { sort = sort; from = length before; upto = length before + length front }
 
-front_slice : (before front rest : List ℕ) → slice_range (before ++ (front ++ rest)) (length before) (length before + length front) ≡ front
+pub front_slice : (before front rest : List ℕ) → slice_range (before ++ (front ++ rest)) (length before) (length before + length front) ≡ front
 front_slice before front rest =
     let count : length before + length front - length before ≡ length front = omega arith in
     ap (λ (z : ℕ). take z (drop (length before) (before ++ (front ++ rest)))) count
@@ -85,7 +85,7 @@ front_slice before front rest =
     ∙ take-append_seam front rest
 
 -- what a token in front of the bytes adds
-token_step : (sort : TokenSort) (before : List ℕ) (b : ℕ) (bs rest : List ℕ) (words : List Lexeme) → HasTokens rest words → is_white b ≡ false →
+pub token_step : (sort : TokenSort) (before : List ℕ) (b : ℕ) (bs rest : List ℕ) (words : List Lexeme) → HasTokens rest words → is_white b ≡ false →
     IsTokenAt (before ++ (b ∷ bs ++ rest)) (length before) (found sort before (b ∷ bs)) →
     map lexeme_of (tokens (before ++ (b ∷ bs ++ rest)) (length before)) ≡ record { sort = Some sort; spelling = b ∷ bs } ∷ words
 token_step sort before b bs rest words h w t =
@@ -133,7 +133,7 @@ and_false : (x y : Bool) → y ≡ false → (x && y) ≡ false
 and_false true y h = h
 and_false false y h = refl
 
-false_and : (x y : Bool) → x ≡ false → (x && y) ≡ false
+pub false_and : (x y : Bool) → x ≡ false → (x && y) ≡ false
 false_and true y h = absurd cc
 false_and false y h = refl
 
@@ -152,7 +152,7 @@ sort_word : (b : ℕ) (bs : List ℕ) → begins_blob (b ∷ bs) ≡ false → i
 sort_word b bs n l = cond-false (begins_blob (b ∷ bs)) _ _ n ∙ cond-true (is_letter b) _ _ l
 
 -- a token of a sort that the bytes behind the seam tell
-token_there : (sort : TokenSort) (before bytes : List ℕ) (b : ℕ) (bs : List ℕ) (upto : ℕ) → bytes ≡ b ∷ bs → sort_at bytes ≡ sort → EndsAt (tail_test sort) (before ++ bytes) (length before + head_size sort) (length (before ++ bytes)) upto →
+pub token_there : (sort : TokenSort) (before bytes : List ℕ) (b : ℕ) (bs : List ℕ) (upto : ℕ) → bytes ≡ b ∷ bs → sort_at bytes ≡ sort → EndsAt (tail_test sort) (before ++ bytes) (length before + head_size sort) (length (before ++ bytes)) upto →
     IsTokenAt (before ++ bytes) (length before) (record { sort = sort; from = length before; upto = upto })
 token_there sort before bytes b bs upto e s ends =
     let some : length before < length (before ++ bytes) = omega (arith, length-append before bytes, ap length e) in

@@ -1,24 +1,29 @@
 -- The literal that is written spells its vector.
-use Rattle.std.proofs.Common.{◌≡◌, ℕ, suc, ◌^◌, ◌<◌, inl, inr, List, [], ◌∷◌, ◌++◌, map, get_or, All, refl, sym, ◌∙◌, ap, subst, Fits, arith}
+use Rattle.std.proofs.Common.{◌≡◌, ℕ, suc, ◌^◌, ◌<◌, inl, inr, List, [], ◌∷◌, ◌++◌, ◌-◌, ◌≤◌, length, take, drop, map, get_or, All, refl, sym, ◌∙◌, ap, subst, Fits, arith}
 use Rattle.std.specs.Prelude.{ℤ, pos, negsuc, ◌-ℤ◌}
 use Rattle.std.specs.Fmt.{decimal, signed_decimal}
 use Rattle.std.specs.Int.{w8, cast_signed, cast_unsigned}
 use Rattle.std.proofs.lemmas.Int.{ints, of_z-to_z}
+use Rattle.std.proofs.Math.Seq.{take-length}
+use Rattle.std.specs.List.{flat_map}
 use Rattle.std.proofs.lemmas.List.{append-nil}
 use Rattle.std.proofs.lemmas.List.Elements.{All-head, All-tail, All-nil, All-cons, All-from_get_or}
 use Rattle.vec_literal.specs.Int8.{SpellsNumber, SpellsElement, SpellsElements, SpellsInside, IsElement, SpellsInt8, elements_text, int8_text}
 use Rattle.vec_literal.proofs.Int8Digits.{plain_spelled, minus_spelled}
 use Rattle.vec_literal.proofs.Int8Elements.{bare_element}
 
--- the elements behind another one
-abbrev pub more_text : List ℕ → List ℕ
-more_text [] = []
-more_text (b ∷ bs) = 44 ∷ (signed_decimal (cast_signed w8 b) ++ more_text bs)
+-- the elements of a vector, by the first
+pub elements_whole : (b : ℕ) (bs : List ℕ) → elements_text (b ∷ bs) ≡ signed_decimal (cast_signed w8 b) ++ flat_map (λ c. 44 ∷ signed_decimal (cast_signed w8 c)) bs
+elements_whole b [] = sym (append-nil (signed_decimal (cast_signed w8 b)))
+elements_whole b (c ∷ cs) = ap (λ (z : List ℕ). signed_decimal (cast_signed w8 b) ++ 44 ∷ z) (elements_whole c cs)
 
--- the first element and those behind it
-elements_split : (b : ℕ) (bs : List ℕ) → elements_text (b ∷ bs) ≡ signed_decimal (cast_signed w8 b) ++ more_text bs
-elements_split b [] = sym (append-nil (signed_decimal (cast_signed w8 b)))
-elements_split b (c ∷ cs) = ap (λ (x : List ℕ). signed_decimal (cast_signed w8 b) ++ 44 ∷ x) (elements_split c cs)
+-- the same of a vector with an element
+pub elements_by : (vector : List ℕ) → 1 ≤ length vector →
+    elements_text vector ≡ signed_decimal (cast_signed w8 (get_or vector 0 0)) ++ flat_map (λ c. 44 ∷ signed_decimal (cast_signed w8 c)) (take (length vector - 1) (drop 1 vector))
+elements_by [] some = absurd (omega arith)
+elements_by (b ∷ bs) some =
+    let count : length (b ∷ bs) - 1 ≡ length bs = omega arith in
+    elements_whole b bs ∙ ap (λ (z : List ℕ). signed_decimal (cast_signed w8 b) ++ flat_map (λ c. 44 ∷ signed_decimal (cast_signed w8 c)) z) (sym (ap (λ (n : ℕ). take n bs) count ∙ take-length bs))
 
 -- the decimal text of an element spells it
 number_spelled : (z : ℤ) → IsElement z → SpellsNumber (signed_decimal z) z
@@ -29,7 +34,7 @@ number_spelled (negsuc n) h =
     subst (λ (z : ℤ). SpellsNumber (45 ∷ decimal (suc n)) z) same (minus_spelled (suc n) few)
 
 -- the number of a byte is an element
-byte_fits : (b : ℕ) → b < 2 ^ 8 → IsElement (cast_signed w8 b)
+pub byte_fits : (b : ℕ) → b < 2 ^ 8 → IsElement (cast_signed w8 b)
 byte_fits b h = (omega (arith, ints), omega (arith, ints))
 
 abbrev AreBytes : List ℕ → Type 0
@@ -68,7 +73,7 @@ bytes_back (b ∷ bs) h =
     ∙ ap (λ (x : List ℕ). cast_unsigned w8 (cast_signed w8 b) ∷ x) (bytes_back bs (tail_bytes b bs h))
 
 -- the literal of bytes spells them
-bytes_spell : (v : List ℕ) → AreBytes v → SpellsInt8 (int8_text v) v
+pub bytes_spell : (v : List ℕ) → AreBytes v → SpellsInt8 (int8_text v) v
 bytes_spell v h = record {
   elements = map (cast_signed w8) v;
   list = record {
@@ -87,9 +92,3 @@ bytes_spell v h = record {
 -- a text that is the literal of bytes spells them
 pub written_spells : (t v : List ℕ) → t ≡ int8_text v → ((i : ℕ) → Fits w8 (get_or v i 0)) → SpellsInt8 t v
 written_spells t v e h = subst (λ (x : List ℕ). SpellsInt8 x v) (sym e) (bytes_spell v (All-from_get_or (λ b. b < 2 ^ 8) v 0 (λ i _. let f = h i in omega arith)))
-
--- the text before the loop: a bracket and the first element
-pub first_written : (v bs t start : List ℕ) (b : ℕ) → v ≡ b ∷ bs → start ≡ 91 ∷ [] → t ≡ start ++ signed_decimal (cast_signed w8 b) → t ++ more_text bs ≡ 91 ∷ elements_text v
-first_written v bs t start b e f g =
-    ap (λ (x : List ℕ). x ++ more_text bs) (g ∙ ap (λ (x : List ℕ). x ++ signed_decimal (cast_signed w8 b)) f)
-    ∙ ap (λ (x : List ℕ). 91 ∷ x) (sym (elements_split b bs) ∙ ap (λ (x : List ℕ). elements_text x) (sym e))

@@ -1,5 +1,7 @@
+pub mod Adding
 pub mod BitsLaws
 pub mod Decimals
+pub mod Doubling
 pub mod Enclosed
 pub mod Following
 pub mod Int8Complete
@@ -11,8 +13,11 @@ pub mod Int8Sound
 pub mod Int8Worked
 pub mod Int8Written
 pub mod Lexing
+pub mod LiteralsBefore
 pub mod Marks
 pub mod Quoted
 pub mod Runs
 pub mod Sorts
 pub mod Texts
+pub mod ValuesBefore
+pub mod Written

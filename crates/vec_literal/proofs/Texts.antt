@@ -43,11 +43,11 @@ around_quote : (xs ys : List ℕ) → IsUtf8 xs → IsUtf8 ys → IsUtf8 (xs ++ 
 around_quote xs ys h k = IsUtf8-append xs (39 ∷ ys) h (IsUtf8-append (39 ∷ []) ys IsUtf8-quote k)
 
 -- two changes of a value in an option are one
-map_map : (f g : List ℕ → List ℕ) (o : Option (List ℕ)) → option_map f (option_map g o) ≡ option_map (λ x. f (g x)) o
+pub map_map : (f g : List ℕ → List ℕ) (o : Option (List ℕ)) → option_map f (option_map g o) ≡ option_map (λ x. f (g x)) o
 map_map f g None = refl
 map_map f g (Some x) = refl
 
-map_same : (o : Option (List ℕ)) → o ≡ option_map (λ x. x) o
+pub map_same : (o : Option (List ℕ)) → o ≡ option_map (λ x. x) o
 map_same None = refl
 map_same (Some x) = refl
 

@@ -24,3 +24,9 @@ number_lexeme bytes = record { sort = Some sorts.Number; spelling = bytes }
 
 abbrev pub mark_lexeme : List ℕ → Lexeme
 mark_lexeme bytes = record { sort = Some sorts.Mark; spelling = bytes }
+
+abbrev pub text_lexeme : List ℕ → Lexeme
+text_lexeme bytes = record { sort = Some sorts.TextLit; spelling = bytes }
+
+abbrev pub blob_lexeme : List ℕ → Lexeme
+blob_lexeme bytes = record { sort = Some sorts.BlobLit; spelling = bytes }

@@ -1,8 +1,10 @@
 pub mod Bits
 pub mod Faults
+pub mod Held
 pub mod Int8
 pub mod Int8Reading
 pub mod Lexemes
 pub mod Stretches
 pub mod Tokens
+pub mod ValueTexts
 pub mod Values

@@ -1,7 +1,8 @@
-ghost use Rattle.std.specs.Prelude.{◌≡◌, ◌⊎◌, ℕ, [], ◌++◌, List, IfOk, IfErr, OnOk, string_bytes};
+ghost use Rattle.std.specs.Prelude.{◌≡◌, ◌⊎◌, ℕ, [], ◌∷◌, ◌++◌, List, IfOk, IfErr, OnOk, string_bytes};
 ghost use Rattle.std.specs.Fmt.{signed_decimal};
 ghost use Rattle.std.specs.Int.{w8, cast_signed};
-ghost use Rattle.vec_literal.specs.Int8.{SpellsInt8, int8_text, is_space};
+ghost use Rattle.std.specs.List.{flat_map};
+ghost use Rattle.vec_literal.specs.Int8.{SpellsInt8, elements_text, int8_text, is_space};
 ghost use Rattle.vec_literal.specs.declared.int8.LitFault.{LitFault as Fault};
 ghost use Rattle.vec_literal.specs.declared.int8.LitFault.TheVariants.{Memory as WantOfMemory};
 ghost use Rattle.vec_literal.specs.Faults.{ReadsAs, FaultsAs, IsInt8Fault};
@@ -54,7 +55,9 @@ pub fn write_int8(alloc: Global, vector: &[u8]) -> Result<Txt, Memory>
     ensures text { IfOk result (λ t. t ≡ int8_text vector.now) }
     ensures reads_back { IfOk result (λ t. SpellsInt8 t vector.now) }
 {
-    Ok(Txt::from_string(literal(alloc, vector)?))
+    let mut text = String::new(alloc);
+    write_vector(&mut text, vector)?;
+    Ok(Txt::from_string(text))
 }
 
 /// A literal of which the bytes so far are read.
@@ -301,29 +304,45 @@ impl Number {
     }
 }
 
-/// The literal of the vector, without white space.
-fn literal(alloc: Global, vector: &[u8]) -> Result<String, AllocError>
-    ensures { IfOk result (λ t. string_bytes t ≡ int8_text vector.now) }
+/// Writes the literal of the vector, without white space.
+pub(crate) fn write_vector(text: &mut String, vector: &[u8]) -> Result<(), AllocError>
+    ensures { OnOk result (string_bytes text.new ≡ string_bytes text.old ++ int8_text vector.now) }
 {
-    let mut text = String::new(alloc);
-    text.push('[')?;
-    if let Some((first, rest)) = vector.split_first() {
-        write_element(&mut text, *first)?;
-        for byte in rest {
-            text.push(',')?;
-            write_element(&mut text, *byte)?;
-        }
-    }
-    text.push(']')?;
-    Ok(text)
+    text.push_str("[")?;
+    write_elements(text, vector)?;
+    text.push_str("]")
 }
 
-/// Adds the decimal number of an element.
-fn write_element(text: &mut String, byte: u8) -> Result<(), AllocError>
-    ensures { OnOk result (string_bytes text.new ≡ string_bytes text.old ++ signed_decimal (cast_signed w8 byte)) }
+/// Writes the elements of a vector with commas between them.
+fn write_elements(text: &mut String, vector: &[u8]) -> Result<(), AllocError>
+    ensures { OnOk result (string_bytes text.new ≡ string_bytes text.old ++ elements_text vector.now) }
+{
+    match vector {
+        [] => Ok(()),
+        [first, others @ ..] => {
+            write_element(text, *first)?;
+            write_more_elements(text, others)
+        }
+    }
+}
+
+/// Writes the elements behind the first one, each with a comma before it.
+fn write_more_elements(text: &mut String, others: &[u8]) -> Result<(), AllocError>
+    ensures { OnOk result (string_bytes text.new ≡ string_bytes text.old ++ flat_map (λ b. 44 ∷ signed_decimal (cast_signed w8 b)) others.now) }
+{
+    for element in others {
+        text.push_str(",")?;
+        write_element(text, *element)?;
+    }
+    Ok(())
+}
+
+/// Writes an element of a vector in decimal.
+fn write_element(text: &mut String, element: u8) -> Result<(), AllocError>
+    ensures { OnOk result (string_bytes text.new ≡ string_bytes text.old ++ signed_decimal (cast_signed w8 element)) }
 {
     let mut buffer = itoa::Buffer::new();
-    text.push_str(buffer.format(byte.cast_signed()))
+    text.push_str(buffer.format(element.cast_signed()))
 }
 
 #[cfg(test)]

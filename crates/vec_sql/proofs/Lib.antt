@@ -4,6 +4,12 @@ pub mod Making
 pub mod Meant
 pub mod Noting
 pub mod OneMeaning
+pub mod ReadBack
 pub mod Spelled
 pub mod StatementLines
+pub mod TextAdds
+pub mod TextLexemes
+pub mod TextParts
+pub mod TextStatements
+pub mod TextTerms
 pub mod WellFormed

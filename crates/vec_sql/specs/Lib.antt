@@ -1,6 +1,8 @@
+pub mod Canonical
 pub mod Factored
 pub mod Formed
 pub mod Givens
+pub mod Held
 pub mod Made
 pub mod Noted
 pub mod Reads

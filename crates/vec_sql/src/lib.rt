@@ -8,14 +8,18 @@ mod list;
 mod made;
 mod meaning;
 mod parameters;
+mod piece;
+mod pieces;
 mod read;
 mod select;
 mod term;
 mod value;
 mod vector;
+mod write;
 
 pub use given::{Given, GivenAssign, GivenSelect, GivenStatement, GivenTerm, GivenTest, Group};
 pub use read::read_statement;
 
 #[cfg(test)]
 mod tests;
+pub use write::write_statement;
