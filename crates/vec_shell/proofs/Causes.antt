@@ -5,7 +5,8 @@ use Rattle.row_model.specs.declared.state.State.{State}
 use Rattle.row_model.specs.declared.request.Request.TheVariants.{OpenSession}
 use Rattle.row_model.specs.declared.request.Reply.{Reply}
 use Rattle.row_model.specs.declared.request.Reply.TheVariants.{Session}
-use Rattle.row_model.specs.Machine.{first_state, no_tables, answer_of}
+use Rattle.row_model.specs.Machine.{first_state, no_tables}
+use Rattle.row_model.specs.Step.{answer_of}
 use Rattle.row_model.specs.Shelled.{AnswersAll}
 use Rattle.vec_shell.specs.declared.shell.Ending.{Ending}
 use Rattle.vec_shell.specs.declared.shell.Ending.TheVariants.{Whole, ReadFault, WriteFault}

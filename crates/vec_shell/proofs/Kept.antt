@@ -7,7 +7,7 @@ use Rattle.row_model.specs.declared.statement.Statement.{Statement}
 use Rattle.row_model.specs.declared.state.State.{State}
 use Rattle.row_model.specs.declared.request.Reply.{Reply}
 use Rattle.row_model.specs.Shelled.{Answers}
-use Rattle.vec_base.specs.declared.refusal.Refusal.TheVariants.{Syntax, Unsupported, Parameter, Full, BadSchema}
+use Rattle.vec_base.specs.declared.refusal.Refusal.TheVariants.{Syntax, Unsupported, Parameter, Full, BadSchema, TxnState, NoTable, TableExists, NoColumn, WrongType, VectorShape, NotNull, FixedColumn, KRange, KnnForm, Busy, OldSnapshot, Duplicate, RowidsSpent, NoSavepoint, NoSession, NoCursor, TooManyRows, StoreFault, WantOfMemory}
 use Rattle.vec_sql.specs.Reads.{IsRefusal, FailsBy}
 use Rattle.vec_shell.specs.Reads.{Reads}
 
@@ -26,20 +26,40 @@ beyond t long within = (let more : 4194304 < length t = ltb-true 4194304 (length
 
 fails_long : (t : List ℕ) (refusal : Refusal) → nat_lt 4194304 (length t) ≡ true → FailsBy t refusal → refusal ≡ Syntax 4194304
 fails_long t refusal long (inl far) = far.1
-fails_long t refusal long (inr fails) = absurd (beyond t long fails.1.0)
+fails_long t refusal long (inr fails) = absurd (beyond t long fails.1)
 
 refused_long : (t : List ℕ) (refusal : Refusal) → nat_lt 4194304 (length t) ≡ true → IsRefusal t [] refusal → refusal ≡ Syntax 4194304
 refused_long t (Syntax place) long (inl fails) = fails_long t (Syntax place) long fails
-refused_long t (Syntax place) long (inr given) = absurd (beyond t long given.1.0.within)
+refused_long t (Syntax place) long (inr given) = absurd (beyond t long given.1.within)
 refused_long t (Unsupported word) long fails = fails_long t (Unsupported word) long fails
-refused_long t (Parameter index) long given = absurd (beyond t long given.1.0.within)
-refused_long t (Full limit count) long given = absurd (beyond t long given.1.0.within)
-refused_long t (BadSchema rule) long given = absurd (beyond t long given.1.0.within)
+refused_long t (Parameter index) long given = absurd (beyond t long given.1.within)
+refused_long t (Full limit count) long given = absurd (beyond t long given.1.within)
+refused_long t (BadSchema rule) long given = absurd (beyond t long given.1.within)
+refused_long t TxnState long never = absurd never
+refused_long t NoTable long never = absurd never
+refused_long t TableExists long never = absurd never
+refused_long t (NoColumn index) long never = absurd never
+refused_long t (WrongType column) long never = absurd never
+refused_long t (VectorShape column wanted got) long never = absurd never
+refused_long t (NotNull column) long never = absurd never
+refused_long t (FixedColumn column) long never = absurd never
+refused_long t (KRange k) long never = absurd never
+refused_long t (KnnForm rule) long never = absurd never
+refused_long t (Busy session) long never = absurd never
+refused_long t (OldSnapshot at latest) long never = absurd never
+refused_long t (Duplicate rowid) long never = absurd never
+refused_long t RowidsSpent long never = absurd never
+refused_long t NoSavepoint long never = absurd never
+refused_long t NoSession long never = absurd never
+refused_long t NoCursor long never = absurd never
+refused_long t (TooManyRows count) long never = absurd never
+refused_long t StoreFault long never = absurd never
+refused_long t WantOfMemory long never = absurd never
 
 -- a text beyond the limit gets one refusal
 too_long : (t : List ℕ) (read : Result Statement Refusal) → nat_lt 4194304 (length t) ≡ true → Reads t read → read ≡ Err (Syntax 4194304)
 too_long t (Ok statement) long reads = absurd (beyond t long reads.0.is_given.within)
-too_long t (Err refusal) long (inr unserved) = absurd (beyond t long unserved.0.1.0.is_given.within)
+too_long t (Err refusal) long (inr unserved) = absurd (beyond t long unserved.0.1.is_given.within)
 too_long t (Err refusal) long (inl refused) = ap (λ (z : Refusal). Err z) (refused_long t refusal long refused)
 
 reads_kept : (t : List ℕ) (read : Result Statement Refusal) (b : Bool) → nat_lt 4194304 (length t) ≡ b → Reads (take 4194305 t) read → Reads t read

@@ -6,7 +6,8 @@ use Rattle.std.proofs.lemmas.List.Concat.{flat_map-append}
 use Rattle.std.specs.List.{flat_map}
 use Rattle.vec_base.specs.declared.value.Value.{Value}
 use Rattle.vec_literal.specs.Int8.{elements_text}
-use Rattle.vec_shell.specs.Lines.{doubled, value_text, values_text}
+use Rattle.vec_literal.specs.ValueTexts.{doubled, value_text}
+use Rattle.vec_shell.specs.Lines.{values_text}
 use Rattle.vec_shell.specs.Puts.{element_text, further_elements, further_values}
 
 -- quotes are doubled part by part

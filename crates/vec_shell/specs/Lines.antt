@@ -6,31 +6,12 @@ use Rattle.vec_base.specs.declared.value.Value.{Value}
 use Rattle.vec_base.specs.declared.value.Value.TheVariants.{Null, Int, Text, Blob, Int8, Bits}
 use Rattle.vec_base.specs.Refusals.{number_of}
 use Rattle.vec_literal.specs.Int8.{int8_text}
+use Rattle.vec_literal.specs.ValueTexts.{value_text}
 use Rattle.row_model.specs.declared.request.Reply.{Reply}
 use Rattle.row_model.specs.declared.request.Reply.TheVariants.{Done, Inserted, Changed, Rows, Planned, Session, Cursor, Page, Refused}
 use Rattle.row_model.specs.declared.request.Shape.{Shape}
 use Rattle.row_model.specs.declared.request.Shape.TheVariants.{Point, Scan, Nearest}
 use Rattle.row_model.specs.RefusalTexts.{refusal_text}
-
--- the text with each quote twice
-abbrev pub doubled : List ℕ → List ℕ
-doubled [] = []
-doubled (b ∷ bs) = if b == 39 then 39 ∷ 39 ∷ doubled bs else b ∷ doubled bs
-
--- a byte as two hexadecimal digits in capitals
-abbrev pub hex_byte : ℕ → List ℕ
-hex_byte b = slice_index (codes "0123456789ABCDEF") (b / 16) ∷ slice_index (codes "0123456789ABCDEF") (b % 16) ∷ []
-
-abbrev pub hex_text : List ℕ → List ℕ
-hex_text bytes = flat_map hex_byte bytes
-
-abbrev pub value_text : Value → List ℕ
-value_text Null = codes "NULL"
-value_text (Int n) = signed_decimal n
-value_text (Text text) = codes "'" ++ doubled text ++ codes "'"
-value_text (Blob bytes) = codes "X'" ++ hex_text bytes ++ codes "'"
-value_text (Int8 vector) = codes "vec_int8('" ++ int8_text vector ++ codes "')"
-value_text (Bits bytes) = codes "vec_bit(X'" ++ hex_text bytes ++ codes "')"
 
 -- the values with `|` between them
 abbrev pub values_text : List Value → List ℕ

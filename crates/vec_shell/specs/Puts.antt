@@ -6,7 +6,7 @@ use Rattle.std.specs.List.{flat_map}
 use Rattle.std.specs.declared.option.Option.{Option}
 use Rattle.vec_base.specs.declared.value.Value.{Value}
 use Rattle.vec_shell.specs.declared.output.Output.{Output}
-use Rattle.vec_shell.specs.Lines.{value_text}
+use Rattle.vec_literal.specs.ValueTexts.{value_text}
 use Rattle.vec_shell.specs.Sending.{Handed}
 
 -- Whatever was handed to the output before, it has been handed with this part behind it.

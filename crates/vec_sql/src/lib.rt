@@ -19,7 +19,7 @@ mod write;
 
 pub use given::{Given, GivenAssign, GivenSelect, GivenStatement, GivenTerm, GivenTest, Group};
 pub use read::read_statement;
+pub use write::write_statement;
 
 #[cfg(test)]
 mod tests;
-pub use write::write_statement;

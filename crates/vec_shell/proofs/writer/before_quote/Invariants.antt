@@ -1,5 +1,5 @@
 use Rattle.std.proofs.Common.{◌≡◌, take}
-use Rattle.vec_shell.specs.Lines.{doubled}
+use Rattle.vec_literal.specs.ValueTexts.{doubled}
 use Rattle.vec_shell.proofs.writer.before_quote.Given as goal
 
 abbrev pub invariant-loop-at : goal.invariant-loop-at

@@ -1,5 +1,5 @@
 use Rattle.std.proofs.Common.{◌∷◌}
-use Rattle.vec_shell.specs.Lines.{value_text}
+use Rattle.vec_literal.specs.ValueTexts.{value_text}
 use Rattle.vec_shell.proofs.Handing.{puts_then, puts_same}
 use Rattle.vec_shell.proofs.Wording.{flat_map_step}
 use Rattle.vec_shell.proofs.writer.put_further_values.Goals as goal

@@ -1,4 +1,4 @@
-use Rattle.vec_shell.specs.Lines.{hex_byte}
+use Rattle.vec_literal.specs.ValueTexts.{hex_byte}
 use Rattle.vec_shell.proofs.Handing.{puts_then, puts_same}
 use Rattle.vec_shell.proofs.Wording.{flat_map_byte}
 use Rattle.vec_shell.proofs.writer.put_hex.Goals as goal

@@ -1,5 +1,5 @@
 use Rattle.std.proofs.Common.{take}
-use Rattle.vec_shell.specs.Lines.{hex_text}
+use Rattle.vec_literal.specs.ValueTexts.{hex_text}
 use Rattle.vec_shell.specs.Puts.{Puts}
 use Rattle.vec_shell.proofs.writer.put_hex.Given as goal
 

@@ -1,6 +1,6 @@
 use Rattle.std.proofs.Common.{◌≡◌, ℕ, ◌+◌, ◌-◌, ◌<◌, ◌≤◌, List, [], ◌∷◌, ◌++◌, length, take, drop, get_or, sym, ap, ◌∙◌, subst, arith, length-drop}
 use Rattle.std.proofs.lemmas.List.{take_rest}
-use Rattle.vec_shell.specs.Lines.{doubled}
+use Rattle.vec_literal.specs.ValueTexts.{doubled}
 use Rattle.vec_shell.proofs.Handing.{puts_then, puts_same}
 use Rattle.vec_shell.proofs.Wording.{doubled_quote}
 use Rattle.vec_shell.proofs.writer.put_segment.Goals as goal

@@ -1,5 +1,5 @@
 use Rattle.std.proofs.Common.{length, ◌-◌, ◌≤◌, take}
-use Rattle.vec_shell.specs.Lines.{doubled}
+use Rattle.vec_literal.specs.ValueTexts.{doubled}
 use Rattle.vec_shell.specs.Puts.{Puts}
 use Rattle.vec_shell.proofs.writer.put_text.Given as goal
 
