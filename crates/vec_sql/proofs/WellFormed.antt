@@ -1,15 +1,12 @@
 -- A statement that a text spells is well formed.
-use Rattle.std.proofs.Common.{◌≡◌, ℕ, ◌≤◌, ◌<◌, Bool, true, false, inl, inr, List, [], ◌∷◌, ◌++◌, length, Option, Some, None, refl, sym, ◌∙◌, ap, subst, arith}
+use Rattle.std.proofs.Common.{◌≡◌, ℕ, ◌<◌, Bool, true, inl, inr, List, [], ◌∷◌, ◌++◌, length, Option, Some, None, refl, sym, ◌∙◌, ap, subst, arith}
 use Rattle.std.specs.Prelude.{◌&&◌, ◌==◌, nat_le, nat_lt, if◌then◌else◌}
 use Rattle.std.specs.List.{AllByRecursion, flat_map, list_all}
-use Rattle.std.proofs.lemmas.Bool.{and_parts, and_from, cases_Bool, cases_lt, cond-true, cond-false, lt-ltb, le-leb, eqb-true}
+use Rattle.std.proofs.lemmas.Bool.{and_parts, and_from, cases_Bool, cases_lt, cond-true, cond-false, lt-ltb, le-leb}
 use Rattle.vec_base.specs.Words.{is_name}
 use Rattle.vec_base.specs.declared.value.Value.{Value}
 use Rattle.row_model.specs.Schemas.{schema_fault, IsValidSchema}
-use Rattle.row_model.specs.WellFormed.{is_filled, are_items, is_whole_test, is_term, are_terms, IsWellFormed, IsWellFormedCreate, IsWellFormedInsert, IsWellFormedUpdate, IsWellFormedDelete, IsWellFormedSelect}
-use Rattle.row_model.specs.declared.schema.Column.{Column}
-use Rattle.row_model.specs.declared.schema.Schema.{Schema}
-use Rattle.row_model.specs.declared.statement.Assign.{Assign}
+use Rattle.row_model.specs.WellFormed.{is_filled, are_items, is_whole_test, is_term, are_terms, IsWellFormed, IsWellFormedInsert, IsWellFormedUpdate, IsWellFormedDelete, IsWellFormedSelect}
 use Rattle.row_model.specs.declared.statement.Constraint.{Constraint}
 use Rattle.row_model.specs.declared.statement.Delete.{Delete}
 use Rattle.row_model.specs.declared.statement.Insert.{Insert}
@@ -22,7 +19,6 @@ use Rattle.row_model.specs.declared.statement.Update.{Update}
 use Rattle.vec0_columns.specs.Columns.{columns_of, has_name, least, schema_of, text_fault}
 use Rattle.vec0_columns.specs.declared.text.Arg.{Arg}
 use Rattle.vec0_columns.specs.declared.text.Arg.TheVariants as args
-use Rattle.vec_sql.specs.declared.given.Given.{Given}
 use Rattle.vec_sql.specs.declared.given.Group.{Group}
 use Rattle.vec_sql.specs.declared.given.GivenAssign.{GivenAssign}
 use Rattle.vec_sql.specs.declared.given.GivenTest.{GivenTest}
