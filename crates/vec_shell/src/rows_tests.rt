@@ -1,6 +1,6 @@
 //! Scripts with the replies that they get.
-use crate::tests::{Setting, ran, whole};
 use crate::scripts::ROWS;
+use crate::tests::{Setting, ran, whole};
 use crate::transcripts::{COLUMNS, FORMS, SENTENCES};
 use std::alloc::Global;
 use std::test::Fail;
@@ -104,7 +104,8 @@ fn an_answer_has_at_most_4096_rows(rt: HostRuntime) -> Result<(), Fail> {
         SELECT rowid FROM v WHERE rowid > 4090 LIMIT 5000; SELECT rowid FROM v LIMIT 4096"
     )?;
     let (status, out) = shelled(alloc, input.as_str())?;
-    let begin = "ok\nok inserted 4097 last 4097\nerror 23 too many rows 4097\nerror 23 too many rows 4097\n\
+    let begin =
+        "ok\nok inserted 4097 last 4097\nerror 23 too many rows 4097\nerror 23 too many rows 4097\n\
         4091\n4092\n4093\n4094\n4095\n4096\n4097\nrows 7\n1\n2\n3\n";
     assert_eq!(rt; status, 2);
     assert!(rt; out.as_slice().starts_with(begin.as_bytes()));
@@ -127,7 +128,9 @@ fn limits_are_kept(rt: HostRuntime) -> Result<(), Fail> {
     let alloc = rt.alloc();
     let mut input = String::new(alloc);
     for number in 1..66 {
-        let create = format!(in alloc; "CREATE VIRTUAL TABLE v{number} USING vec0(a int8[1], +x text);")?;
+        let create = format!(in alloc;
+            "CREATE VIRTUAL TABLE v{number} USING vec0(a int8[1], +x text);"
+        )?;
         input.push_str(create.as_str())?;
     }
     for (count, terms) in [(64, 1), (65, 1), (64, 65), (65, 65)] {

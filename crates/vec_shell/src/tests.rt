@@ -46,7 +46,12 @@ fn only(alloc: Global, number: u64) -> Result<List<u64>, Fail> {
 }
 
 /// The status and the output of a run.
-pub(crate) fn ran(alloc: Global, word: &str, input: &[u8], setting: &Setting) -> Result<(u8, Vec<u8>), Fail> {
+pub(crate) fn ran(
+    alloc: Global,
+    word: &str,
+    input: &[u8],
+    setting: &Setting,
+) -> Result<(u8, Vec<u8>), Fail> {
     let mut words = Vec::new(alloc);
     words.push(String::from_str(alloc, word)?)?;
     let bytes = Bytes::from_slice(alloc, input).or(Err("no memory"))?;
@@ -95,7 +100,10 @@ fn every_input_gets_its_replies(rt: HostRuntime) -> Result<(), Fail> {
         (b"\0", "error 1 syntax at 0\n"),
         (b"\xff;", "error 1 syntax at 0\n"),
         (b"SELECT #", "error 1 syntax at 7\n"),
-        (b"SELECT a FROM v WHERE a = 'a\xff'", "error 1 syntax at 26\n"),
+        (
+            b"SELECT a FROM v WHERE a = 'a\xff'",
+            "error 1 syntax at 26\n",
+        ),
         (b"SELECT a FROM v WHERE m = 'a''", "error 1 syntax at 29\n"),
         (b"SELECT rowid FROM v WHERE ;", "error 1 syntax at 26\n"),
         (b"'a;b';'c", "error 1 syntax at 0\nerror 1 syntax at 0\n"),

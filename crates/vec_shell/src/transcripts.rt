@@ -1,7 +1,8 @@
 //! Transcripts of the shell: a line behind `> ` is a statement, and the lines behind it are its reply.
 
 /// Rows, what the grammar does not know, unsupported words, parameters and rules of schemas.
-pub(crate) const SENTENCES: &str = r#"> CREATE VIRTUAL TABLE t USING vec0(id integer primary key, p text partition key, n integer, m text, b boolean, a int8[2] distance_metric=l1, h bit[8], +x text, +i int, +y blob, chunk_size=8)
+pub(crate) const SENTENCES: &str =
+    r#"> CREATE VIRTUAL TABLE t USING vec0(id integer primary key, p text partition key, n integer, m text, b boolean, a int8[2] distance_metric=l1, h bit[8], +x text, +i int, +y blob, chunk_size=8)
 ok
 > CREATE VIRTUAL TABLE t USING vec0(id integer primary key, p text partition key, n integer, m text, b boolean, a int8[2] distance_metric=l1, h bit[8], +x text, +i int, +y blob, chunk_size=8)
 error 6 table exists
