@@ -2,8 +2,11 @@
 use crate::scripts::ROWS;
 use crate::tests::{Setting, ran, whole};
 use crate::transcripts::{COLUMNS, FORMS, SENTENCES};
+use row_model::{PlainEngine, Reply, Request};
 use std::alloc::Global;
 use std::test::Fail;
+use vec_base::{List, Refusal};
+use vec_sql::read_statement;
 
 /// The status and the output of a script.
 fn shelled(alloc: Global, script: &str) -> Result<(u8, Vec<u8>), Fail> {
@@ -151,5 +154,26 @@ fn limits_are_kept(rt: HostRuntime) -> Result<(), Fail> {
     )?;
     let (_, out) = shelled(alloc, input.as_str())?;
     assert_eq!(rt; out.as_slice(), wanted.as_str().as_bytes());
+    Ok(())
+}
+
+#[test]
+fn sessions_are_counted_and_looked_for(rt: HostRuntime) -> Result<(), Fail> {
+    let alloc = rt.alloc();
+    let mut engine = PlainEngine::new(alloc)?;
+    for number in 1..257u32 {
+        let reply = engine.answer(Request::OpenSession);
+        assert!(rt; matches!(reply, Reply::Session(id) if id == number));
+    }
+    let reply = engine.answer(Request::OpenSession);
+    assert!(rt; matches!(reply, Reply::Refused(Refusal::Full(6, 257))));
+    let Ok(statement) = read_statement(alloc, b"SELECT rowid FROM v", &List::new(alloc)) else {
+        return Err(Fail::from("no statement"));
+    };
+    if !statement.is_direct() {
+        return Err(Fail::from("another statement"));
+    }
+    let reply = engine.answer(Request::Execute(257, statement));
+    assert!(rt; matches!(reply, Reply::Refused(Refusal::NoSession)));
     Ok(())
 }

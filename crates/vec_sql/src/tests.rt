@@ -1,7 +1,8 @@
 use super::*;
 use row_model::Statement;
+use std::alloc::Global;
 use std::test::Fail;
-use vec_base::{List, Refusal, Txt, Value};
+use vec_base::{Bytes, List, Refusal, Txt, Value};
 
 /// The refusal of a text, where no parameters are given.
 fn refusal_of(rt: &HostRuntime, text: &[u8]) -> Option<Refusal> {
@@ -84,5 +85,49 @@ fn parameters_stand_for_values(rt: HostRuntime) -> Result<(), Fail> {
         read_statement(alloc, swapped, &pair).err(),
         Some(Refusal::Parameter(2))
     );
+    Ok(())
+}
+
+/// The parameters of one value of each kind: NULL, a number, two texts, a blob and vectors.
+fn kinds(alloc: Global) -> Result<[Value; 7], Fail> {
+    let vector = || Bytes::from_slice(alloc, b"\x01\xfe");
+    Ok([
+        Value::Null,
+        Value::Int(1),
+        Value::Text(Txt::from_text(alloc, "[1,-2]")?),
+        Value::Text(Txt::from_text(alloc, "[1,-2")?),
+        Value::Blob(vector()?),
+        Value::Int8(vector()?),
+        Value::Bits(vector()?),
+    ])
+}
+
+#[test]
+fn each_kind_of_parameter_has_its_places(rt: HostRuntime) -> Result<(), Fail> {
+    let alloc = rt.alloc();
+    for (text, taken) in [
+        (b"UPDATE t SET a = ?".as_slice(), [true; 7]),
+        (b"SELECT a FROM t LIMIT ?1".as_slice(), [true; 7]),
+        (
+            b"SELECT a FROM t WHERE a MATCH vec_int8(?)".as_slice(),
+            [false, false, true, false, true, true, false],
+        ),
+        (
+            b"INSERT INTO t(a) VALUES (vec_bit(?1))".as_slice(),
+            [false, false, false, false, true, false, true],
+        ),
+    ] {
+        for (value, taken) in kinds(alloc)?.into_iter().zip(taken) {
+            let mut params = List::new(alloc);
+            params.push(value)?;
+            let refusal = read_statement(alloc, text, &params).err();
+            let wanted = if taken {
+                None
+            } else {
+                Some(Refusal::Parameter(1))
+            };
+            assert_eq!(rt; refusal, wanted);
+        }
+    }
     Ok(())
 }
