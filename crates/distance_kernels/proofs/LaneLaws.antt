@@ -1,13 +1,10 @@
 -- What the operations on lanes make of two vectors of bytes.
-use Rattle.std.proofs.Common.{◌≡◌, ℕ, zero, suc, ◌+◌, ◌-◌, ◌*◌, ◌%◌, ◌^◌, ◌≤◌, ◌<◌, Bool, true, false, cond, ltb, List, [], ◌∷◌, map, length, replicate, refl, ap, ap₂, ◌∙◌, arith, Fits, w8, lit<, bit_xor, count_ones}
-use Rattle.std.specs.Int.{abs_diff, Width}
-use mir.Val.{bits}
-use Rattle.std.specs.Simd.Lanes.{zip2, sum_l, sel_l, top, Each1}
+use Rattle.std.proofs.Common.{◌≡◌, ℕ, zero, suc, ◌+◌, ◌-◌, ◌*◌, ◌%◌, ◌^◌, ◌≤◌, ◌<◌, Bool, true, false, cond, ltb, List, [], ◌∷◌, map, length, replicate, refl, ap, ap₂, ◌∙◌, arith, Fits, w8}
+use Rattle.std.specs.Int.{abs_diff}
+use Rattle.std.specs.Simd.Lanes.{zip2, sel_l, top, Each1}
 use Rattle.std.proofs.lemmas.Bool.{ltb-true, ltb-false}
-use lib.Pow.{pow_mono}
-use native.Mathlib.Nat.{lt_of_lt_of_le, lt_of_le_of_lt}
-use Rattle.vec_base.specs.Distance.{gap, gap_squared, bits_apart, hamming_of}
-use Rattle.distance_kernels.proofs.ElementLaws.{abs_diff-moved, gap-le, square-le, bits_apart-le}
+use Rattle.vec_base.specs.Distance.{gap, gap_squared}
+use Rattle.distance_kernels.proofs.ElementLaws.{abs_diff-moved, gap-le, square-le}
 
 -- lanes of eight bits: added, subtracted, and compared (255 stands for yes)
 abbrev pub sum_8 : ℕ → ℕ → ℕ
@@ -71,27 +68,3 @@ square-lanes [] ys p q = refl
 square-lanes (x ∷ xs) [] p q = refl
 square-lanes (x ∷ xs) (y ∷ ys) p q =
     ap₂ (λ z zs. z ∷ zs) (square-lane (gap x y) (gap-le x y p.0.fits q.0.fits)) (square-lanes xs ys p.1 q.1)
-
--- ---- differing bits
-
--- the numbers of differing bits at each place
-abbrev pub bit_lanes : List ℕ → List ℕ → List ℕ
-bit_lanes xs ys = map count_ones (zip2 bit_xor xs ys)
-
-bit_lanes-zip2 : (xs ys : List ℕ) → bit_lanes xs ys ≡ zip2 bits_apart xs ys
-bit_lanes-zip2 [] ys = refl
-bit_lanes-zip2 (x ∷ xs) [] = refl
-bit_lanes-zip2 (x ∷ xs) (y ∷ ys) = ap (λ zs. bits_apart x y ∷ zs) (bit_lanes-zip2 xs ys)
-
--- a number up to 8 fits four bits or more
-eight_fits : (n : ℕ) → n ≤ 8 → (w : Width) → 4 ≤ bits w → Fits w n
-eight_fits n h w wide = record { fits = lt_of_le_of_lt h (lt_of_lt_of_le (lit< tt) (pow_mono wide)) }
-
-pub bit_lanes-fit : (w : Width) → 4 ≤ bits w → (xs ys : List ℕ) → Each1 (Fits w8) xs → Each1 (Fits w8) ys → Each1 (Fits w) (bit_lanes xs ys)
-bit_lanes-fit w wide [] ys p q = tt
-bit_lanes-fit w wide (x ∷ xs) [] p q = tt
-bit_lanes-fit w wide (x ∷ xs) (y ∷ ys) p q = (eight_fits (bits_apart x y) (bits_apart-le x y p.0.fits q.0.fits) w wide, bit_lanes-fit w wide xs ys p.1 q.1)
-
--- the sum of the lanes, widened twice, is the Hamming distance
-pub bit_lanes-sum : (xs ys : List ℕ) → sum_l (map widened (map widened (bit_lanes xs ys))) ≡ hamming_of xs ys
-bit_lanes-sum xs ys = ap sum_l (all_widened (map widened (bit_lanes xs ys)) ∙ all_widened (bit_lanes xs ys) ∙ bit_lanes-zip2 xs ys)

@@ -4,7 +4,7 @@
 //! from -128 to 127. The difference of unsigned lanes is what processors compute fast.
 ghost use Rattle.std.specs.Prelude.{◌≡◌, ◌*◌, ◌≤◌};
 ghost use Rattle.std.specs.Simd.Lanes.{zip2};
-ghost use Rattle.vec_base.specs.Distance.{gap, gap_squared, l1_of, hamming_of};
+ghost use Rattle.vec_base.specs.Distance.{gap, gap_squared, l1_of};
 
 use std::simd::Simd;
 use std::simd::prelude::*;
@@ -35,14 +35,4 @@ pub fn sum_of_gaps<const N: usize>(x: Simd<u8, N>, y: Simd<u8, N>) -> u32
     ensures bound { result ≤ 255 * N }
 {
     gaps(x, y).cast::<u32>().strict_reduce_sum()
-}
-
-/// The number of differing bits.
-#[inline(always)]
-pub fn sum_of_bits<const N: usize>(x: Simd<u8, N>, y: Simd<u8, N>) -> u32
-    requires { N ≤ 64 }
-    ensures value { result ≡ hamming_of x.entry y.entry }
-    ensures bound { result ≤ 8 * N }
-{
-    (x ^ y).count_ones().cast::<u32>().strict_reduce_sum()
 }
