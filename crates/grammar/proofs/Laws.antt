@@ -9,7 +9,7 @@ use Rattle.vec_literal.specs.declared.token.TokenSort.{TokenSort}
 use Rattle.vec_literal.specs.declared.token.TokenSort.TheVariants as sorts
 use Rattle.grammar.specs.Grammar.{same_sort, is_sort, lower, Class, keyword, sign, name, number, number_after_minus, text_literal, blob_literal, parameter, Part, one, seq, alt, opt, many, means, fits, Joined, Repeats, Spells, Begins, lowered, FailsAt}
 use Rattle.vec_base.specs.Words.{is_reserved}
-use Rattle.grammar.specs.Reading.{Outcome, ◌>>=◌, next_in, nullable, firsts, nexts, starts, sort_for, read_one, read_opt, read_many, read, overlap, apart, decides, ended}
+use Rattle.grammar.specs.inner.Reading.{Outcome, ◌>>=◌, next_in, nullable, firsts, nexts, starts, sort_for, read_one, read_opt, read_many, read, overlap, apart, decides, ended}
 
 -- facts on tests over lists
 

@@ -3,8 +3,8 @@ use Rattle.std.proofs.Common.{◌≡◌, ℕ, zero, suc, ◌<◌, ◌≤◌, tru
 use Rattle.std.proofs.lemmas.Bool.{cond-true, cond-false}
 use Rattle.vec_literal.specs.Tokens.{Token}
 use Rattle.grammar.specs.Grammar.{Part, seq, many, means, Spells, SpellsFront, FailsAt, FailsInside}
-use Rattle.grammar.specs.Reading.{Outcome, ◌>>=◌, nullable, nexts, next_in, starts, read_many, read, ended, decides}
-use Rattle.grammar.specs.Gives.{Gives}
+use Rattle.grammar.specs.inner.Reading.{Outcome, ◌>>=◌, nullable, nexts, next_in, starts, read_many, read, ended, decides}
+use Rattle.grammar.specs.inner.ReaderResults.{Gives}
 use Rattle.grammar.specs.declared.reader.Stop.{Stop}
 use Rattle.grammar.specs.declared.reader.Stop.TheVariants as stops
 use Rattle.grammar.proofs.Laws.{sound, spelled_something, complete, err_begins, begun_left, Left, err_left, ended_ok, ended_err, one_value}

@@ -12,8 +12,8 @@ use Rattle.vec_literal.specs.declared.token.TokenSort.{TokenSort}
 use Rattle.vec_literal.specs.declared.token.TokenSort.TheVariants as sorts
 use Rattle.grammar.specs.Grammar.{is_sort, same_sort, keyword, sign, name, number, number_after_minus, text_literal, blob_literal, parameter, parameter_number, fits}
 use Rattle.grammar.specs.Parameters.{is_plain, with_number, greatest_after, numbered, numbered_from}
-use Rattle.grammar.specs.Reading.{next_in}
-use Rattle.grammar.specs.Gives.{first_of, place_of, is_number_up_to, is_told, is_param_told, AtNumber, AtParameter, next_number, WritesParameter}
+use Rattle.grammar.specs.inner.Reading.{next_in}
+use Rattle.grammar.specs.inner.ReaderResults.{first_of, place_of, is_number_up_to, is_told, is_param_told, AtNumber, AtParameter, next_number, WritesParameter}
 use Rattle.grammar.proofs.Places.{next_first, name_is_word, number_next, after_minus_next, text_at, blob_at, told_text, told_blob, implied, param_nonempty, param_digits, param_bare}
 
 -- ---- what stays

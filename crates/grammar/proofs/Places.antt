@@ -11,14 +11,14 @@ use Rattle.std.specs.List.{list_all}
 use Rattle.std.proofs.lemmas.Slice.Eq.{bytes_eq-Decides}
 use Rattle.grammar.specs.Grammar.{is_sort, lower, number_of, Class, keyword, sign, name, number, number_after_minus, text_literal, blob_literal, parameter, one, means, fits, lowered}
 use Rattle.vec_base.specs.Words.{is_reserved, is_small_letter, is_name_byte, is_small_word, is_name}
-use Rattle.grammar.specs.Reading.{Outcome, ◌>>=◌, next_in, read_one, read}
+use Rattle.grammar.specs.inner.Reading.{Outcome, ◌>>=◌, next_in, read_one, read}
 use Rattle.vec_literal.specs.Tokens.{Token, bad_at, is_number_text, is_word_text, is_letter, is_word_byte, is_right, is_spelling, is_text_literal, is_blob_literal, is_param_text, after}
 use Rattle.vec_literal.specs.declared.token.TokenSort.{TokenSort}
 use Rattle.vec_literal.specs.declared.token.TokenSort.TheVariants as sorts
 use Rattle.vec_literal.specs.declared.token.Lexed.{Lexed}
 use Rattle.vec_literal.specs.declared.token.Lexed.TheVariants as lexed
 use Rattle.std.specs.Prelude.{MatchOption, slice_range, codes}
-use Rattle.grammar.specs.Gives.{first_of, AtNumber, is_number_up_to, is_told, is_param_told, is_in_any_case}
+use Rattle.grammar.specs.inner.ReaderResults.{first_of, AtNumber, is_number_up_to, is_told, is_param_told, is_in_any_case}
 
 pub bad_fits : (c : Class) (p : ℕ) → fits c (bad_at p) ≡ false
 unfolding fits

@@ -6,7 +6,7 @@ use Rattle.vec_literal.specs.Tokens.{Token}
 use Rattle.vec_literal.specs.declared.token.TokenSort.TheVariants as sorts
 use Rattle.grammar.specs.Grammar.{Part, seq, alt, opt, means, a_word, a_mark, a_text, a_blob, a_parameter, a_signed_number}
 use Rattle.grammar.specs.Parameters.{numbered}
-use Rattle.grammar.specs.Reading.{decides, overlap}
+use Rattle.grammar.specs.inner.Reading.{decides, overlap}
 
 abbrev parameter_at : List ℕ → ℕ → Token
 parameter_at spelling place = record { sort = Some sorts.Param; spelling = spelling; place = place }

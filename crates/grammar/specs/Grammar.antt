@@ -4,7 +4,7 @@ use Rattle.std.specs.Char.{to_ascii_lowercase}
 use Rattle.std.specs.Str.Parse.{digits_value}
 use Rattle.vec_base.specs.Words.{is_reserved}
 use Rattle.vec_literal.specs.Tokens.{Token}
-use Rattle.vec_literal.specs.Values.{text_value, quoted_bytes, blob_value}
+use Rattle.vec_literal.specs.LiteralValues.{text_value, quoted_bytes, blob_value}
 use Rattle.vec_literal.specs.declared.token.TokenSort.{TokenSort}
 use Rattle.vec_literal.specs.declared.token.TokenSort.TheVariants as sorts
 

@@ -1,4 +1,3 @@
 pub mod Grammar
-pub mod Reading
-pub mod Gives
 pub mod Parameters
+pub mod inner

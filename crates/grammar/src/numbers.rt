@@ -2,7 +2,7 @@ ghost use Rattle.std.specs.Prelude.{◌≡◌, ◌<◌, ◌≤◌, ◌^◌, max,
 ghost use Rattle.std.specs.Option.{option_map};
 ghost use Rattle.std.specs.Str.Parse.{digits_value};
 ghost use Rattle.vec_literal.specs.Tokens.{is_number_text};
-ghost use Rattle.grammar.specs.Gives.{WritesParameter};
+ghost use Rattle.grammar.specs.inner.ReaderResults.{WritesParameter};
 
 /// The greatest number.
 pub(crate) const GREATEST_NUMBER: u64 = i64::MAX as u64;

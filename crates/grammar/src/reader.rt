@@ -42,13 +42,13 @@ pub struct Reader<'a> {
 impl<'a> Reader<'a> {
     ghost use Rattle.std.specs.Prelude.{◌≡◌, ℕ, ℤ, pos, ◌-ℤ◌, [], ◌∷◌, drop, map, vec_items, ◌||◌, Some, IfOk, MatchBool};
     ghost use Rattle.vec_literal.specs.Tokens.{tokens};
-    ghost use Rattle.vec_literal.specs.Values.{undoubled, blob_value};
+    ghost use Rattle.vec_literal.specs.LiteralValues.{undoubled, blob_value};
     ghost use Rattle.vec_literal.specs.declared.token.TokenSort.TheVariants.{Word as word_sort, Param as param_sort};
-    ghost use Rattle.grammar.specs.Gives.{rest_of, spelled_rest, Gives, first_of, AtNumber, AtParameter, next_number, is_told, is_param_told, place_of, refusal_of};
+    ghost use Rattle.grammar.specs.inner.ReaderResults.{rest_of, spelled_rest, Gives, first_of, AtNumber, AtParameter, next_number, is_told, is_param_told, place_of, refusal_of};
     ghost use Rattle.grammar.specs.Grammar.{keyword, name as name_class, number as number_class, text_literal as text_class, blob_literal as blob_class, parameter as parameter_class, sign, means, a_word, a_mark, a_placed_mark, a_name, a_number, a_number_after_minus, a_signed_number, a_text, a_placed_text, a_quoted, a_blob, a_parameter, lower, text_of, is_sort};
     ghost use Rattle.grammar.specs.Parameters.{numbered_tokens};
     ghost use Rattle.vec_base.specs.Words.{is_name};
-    ghost use Rattle.grammar.specs.Reading.{next_in, read, starts};
+    ghost use Rattle.grammar.specs.inner.Reading.{next_in, read, starts};
 
     /// A reader of the text from a place on.
     pub fn new(alloc: Global, text: &'a [u8], from: usize) -> Reader<'a>

@@ -2,7 +2,7 @@ ghost use Rattle.std.specs.Prelude.{◌≡◌, ◌<◌, length};
 ghost use Rattle.std.specs.List.{list_any, position_from};
 ghost use Rattle.grammar.specs.Grammar.{lowered};
 ghost use Rattle.vec_base.specs.Words.{is_reserved, unsupported_number};
-ghost use Rattle.grammar.specs.Gives.{is_in_any_case};
+ghost use Rattle.grammar.specs.inner.ReaderResults.{is_in_any_case};
 
 /// The words of forms that are not supported, in the order of their numbers.
 const UNSUPPORTED: [&str; 34] = [

@@ -3,7 +3,7 @@ ghost use Rattle.std.specs.Prelude.{◌≡◌, ◌<◌, ◌≤◌, ℕ, length, 
 ghost use Rattle.std.specs.List.{list_any, AllByRecursion};
 ghost use Rattle.row_model.specs.Answer.{Target as TargetValue, at_zero, met, limited, number_in, limit_in, count_in, count_wanted, chosen, answer, target_of, is_equality, is_point_term, shape_by, shape_of};
 ghost use Rattle.row_model.specs.Check.{check_select};
-ghost use Rattle.row_model.specs.Columns.{place_of, is_count, is_rowid_or_key};
+ghost use Rattle.row_model.specs.ColumnNames.{place_of, is_count, is_rowid_or_key};
 ghost use Rattle.row_model.specs.Comparable.{IsComparable};
 ghost use Rattle.row_model.specs.Rows.{is_rising};
 ghost use Rattle.row_model.specs.Valid.{IsValidTable};
@@ -91,9 +91,9 @@ fn limited<'a>(
     rows: &'a [Row],
 ) -> Result<Vec<Near<'a>>, Memory>
     requires narrow { length columns.now < 255 }
-    ensures { IfOk result (λ nears. nears.items ≡ map at_zero (limited select.now.limit (met columns.now select.now.wanted rows.now))) }
+    ensures { IfOk result (λ nears. nears.items ≡ map at_zero (limited select.now.limit (met columns.now select.now.where_terms rows.now))) }
 {
-    let terms = select.wanted.as_slice();
+    let terms = select.where_terms.as_slice();
     match &select.limit {
         None => scanned(alloc, columns, terms, rows.len(), rows),
         Some(value) => scanned(alloc, columns, terms, number_in(value), rows),
@@ -109,10 +109,10 @@ fn chosen<'a>(
 ) -> Result<Vec<Near<'a>>, Memory>
     requires narrow { length columns.now < 255 }
     requires rising { is_rising rows.now ≡ true }
-    requires comparable { (target : TargetValue) → target_of columns.now select.now.wanted ≡ Some target → AllByRecursion (IsComparable target) rows.now }
-    ensures { IfOk result (λ nears. nears.items ≡ chosen (target_of columns.now select.now.wanted) columns.now select.now (met columns.now select.now.wanted rows.now)) }
+    requires comparable { (target : TargetValue) → target_of columns.now select.now.where_terms ≡ Some target → AllByRecursion (IsComparable target) rows.now }
+    ensures { IfOk result (λ nears. nears.items ≡ chosen (target_of columns.now select.now.where_terms) columns.now select.now (met columns.now select.now.where_terms rows.now)) }
 {
-    let terms = select.wanted.as_slice();
+    let terms = select.where_terms.as_slice();
     match target_of(columns, terms) {
         Some(target) => {
             let count = count_wanted(columns, terms, &select.limit);
@@ -158,7 +158,7 @@ pub(crate) fn shape_of(columns: &[Column], select: &Select) -> Shape
     requires narrow { length columns.now < 255 }
     ensures { result ≡ shape_of columns.now select.now }
 {
-    let terms = select.wanted.as_slice();
+    let terms = select.where_terms.as_slice();
     match target_of(columns, terms) {
         Some(_) => Shape::Nearest,
         None => {

@@ -1,7 +1,7 @@
 //! What refuses a statement by its names, its values and the table's columns. No call takes memory.
 ghost use Rattle.std.specs.Prelude.{◌≡◌, ◌<◌, ◌≤◌, ◌+◌, length, Some};
 ghost use Rattle.row_model.specs.Check.{check_insert, check_update, check_delete, check_select, names_faults, items_faults, limit_range_faults, limit_faults, item_count, index_after};
-ghost use Rattle.row_model.specs.Columns.{place_of};
+ghost use Rattle.row_model.specs.ColumnNames.{place_of};
 ghost use Rattle.row_model.specs.Lists.{least_after};
 
 use crate::fit::{note, note_value};
@@ -37,7 +37,7 @@ pub(crate) fn check_update(columns: &[Column], update: &Update) -> Option<Refusa
     ensures { result ≡ check_update columns.now update.now }
 {
     let sets = update.sets.as_slice();
-    let terms = update.wanted.as_slice();
+    let terms = update.where_terms.as_slice();
     let worst = note_sets(columns, sets);
     let worst = note_terms(worst, columns, index_after(sets.len()), terms);
     note_change_forms(worst, columns, terms)
@@ -48,7 +48,7 @@ pub(crate) fn check_delete(columns: &[Column], delete: &Delete) -> Option<Refusa
     requires narrow { length columns.now < 255 }
     ensures { result ≡ check_delete columns.now delete.now }
 {
-    let terms = delete.wanted.as_slice();
+    let terms = delete.where_terms.as_slice();
     let worst = note_terms(None, columns, 1, terms);
     note_change_forms(worst, columns, terms)
 }
@@ -127,7 +127,7 @@ pub(crate) fn check_select(columns: &[Column], select: &Select) -> Option<Refusa
     requires narrow { length columns.now < 255 }
     ensures { result ≡ check_select columns.now select.now }
 {
-    let terms = select.wanted.as_slice();
+    let terms = select.where_terms.as_slice();
     let worst = note_items(None, columns, &select.items);
     let worst = note_terms(worst, columns, index_after_items(&select.items), terms);
     let worst = note_limit(worst, is_nearest(terms), &select.limit);

@@ -1,7 +1,7 @@
 //! What names mean in a table.
 ghost use Rattle.std.specs.Prelude.{◌≡◌, ◌<◌, length, bytes_eq};
 ghost use Rattle.row_model.specs.Check.{is_no_item, is_bool_column, is_fixed};
-ghost use Rattle.row_model.specs.Columns.{place_of, declared_place, column_number, root, is_unknown, is_stored, is_count, is_distance, is_of, is_rowid_or_key, has_text_key};
+ghost use Rattle.row_model.specs.ColumnNames.{place_of, declared_place, column_number, root, is_unknown, is_stored, is_count, is_distance, is_of, is_rowid_or_key, has_text_key};
 ghost use Rattle.row_model.specs.Schemas.{is_vector, is_auxiliary};
 
 use crate::{Column, Kind, Place};

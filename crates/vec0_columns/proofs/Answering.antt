@@ -4,17 +4,17 @@ use Rattle.std.specs.Prelude.{codes, IfOk, IfErr}
 use Rattle.vec_base.specs.declared.refusal.Refusal.{Refusal}
 use Rattle.vec_base.specs.declared.refusal.Refusal.TheVariants as refusals
 use Rattle.vec_literal.specs.Tokens.{Token, tokens}
-use Rattle.grammar.specs.Gives.{first_of, place_of, refusal_by, refusal_of}
+use Rattle.grammar.specs.inner.ReaderResults.{first_of, place_of, refusal_by, refusal_of}
 use Rattle.grammar.specs.Grammar.{sign, Spells, SpellsFront, FailsAt, FailsInside}
-use Rattle.grammar.specs.Reading.{Outcome, ◌>>=◌, next_in, read_one, read}
+use Rattle.grammar.specs.inner.Reading.{Outcome, ◌>>=◌, next_in, read_one, read}
 use Rattle.grammar.proofs.Factoring.{same_fails, same_fails_inside, front_within}
 use Rattle.grammar.proofs.Loops.{whole_found, whole_only, more_fails, err_fails, front_found, front_only, front_fails}
 use Rattle.grammar.proofs.Places.{one_fits, one_fails}
 use Rattle.row_model.specs.Schemas.{IsValidSchema}
 use Rattle.row_model.specs.declared.schema.Schema.{Schema}
 use Rattle.vec0_columns.specs.declared.text.Arg.{Arg}
-use Rattle.vec0_columns.specs.Columns.{columns, enclosed, schema_of, text_fault, answer_by, answer_of, IsAnswer, text_limit, Declares, DeclaresAt, IsRefusalOf, FailsBy, Breaks, IsRefusal, FailsByAt, BreaksAt, IsRefusalAt, placed}
-use Rattle.vec0_columns.specs.Factored.{factored_columns, factored_enclosed}
+use Rattle.vec0_columns.specs.ColumnGrammar.{columns, enclosed, schema_of, text_fault, answer_by, answer_of, IsAnswer, text_limit, Declares, DeclaresAt, IsRefusalOf, FailsBy, Breaks, IsRefusal, FailsByAt, BreaksAt, IsRefusalAt, placed}
+use Rattle.vec0_columns.specs.inner.FactoredColumns.{factored_columns, factored_enclosed}
 use Rattle.vec0_columns.proofs.ColumnLoop.{columns_decides, enclosed_decides, enclosed_ends}
 use Rattle.vec0_columns.proofs.ColumnLines.{columns_same, enclosed_same}
 

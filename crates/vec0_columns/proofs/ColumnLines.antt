@@ -2,7 +2,7 @@
 use Rattle.std.proofs.Common.{List, ◌∷◌}
 use Rattle.std.specs.Prelude.{codes}
 use Rattle.grammar.specs.Grammar.{Part, one, seq, alt, opt, many, means, sign, ◌▸◌, a_mark, a_name}
-use Rattle.grammar.specs.Reading.{or_default}
+use Rattle.grammar.specs.inner.Reading.{or_default}
 use Rattle.grammar.proofs.Factoring.{Within, Same, within_refl, within_trans, within_left, within_right, within_later, within_either, within_means, within_seq, within_behind, within_many, spread, without_option, with_option, option_parts}
 use Rattle.row_model.specs.declared.schema.Kind.{Kind}
 use Rattle.row_model.specs.declared.schema.Kind.TheVariants as kinds
@@ -10,8 +10,8 @@ use Rattle.vec0_columns.specs.declared.text.Spelled.{Spelled}
 use Rattle.vec0_columns.specs.declared.text.Spelled.TheVariants.{Plain}
 use Rattle.vec0_columns.specs.declared.text.Arg.{Arg}
 use Rattle.vec0_columns.specs.declared.text.Arg.TheVariants as args
-use Rattle.vec0_columns.specs.Columns.{integer_word, boolean_word, text_word, blob_word, stands_for, primary_key, partition_key, int8, bits, column, auxiliary, chunk_size, arg, columns, enclosed}
-use Rattle.vec0_columns.specs.Factored.{key, integer_kind, text_kind, text_or_boolean, scalar_kind, kind, auxiliary_kind, factored_arg, tail, factored_columns, factored_enclosed}
+use Rattle.vec0_columns.specs.ColumnGrammar.{integer_word, boolean_word, text_word, blob_word, stands_for, primary_key, partition_key, int8, bits, column, auxiliary, chunk_size, arg, columns, enclosed}
+use Rattle.vec0_columns.specs.inner.FactoredColumns.{key, integer_kind, text_kind, text_or_boolean, scalar_kind, kind, auxiliary_kind, factored_arg, tail, factored_columns, factored_enclosed}
 
 -- what holds of a column of each kind of a choice holds of the choice
 either_column : (p q : Part Spelled) (r : Part Arg) → Within (column p) r → Within (column q) r → Within (column (alt p q)) r

@@ -6,11 +6,11 @@ use Rattle.std.proofs.lemmas.Bool.{and_parts, and_from}
 use Rattle.vec_literal.specs.Tokens.{Token}
 use Rattle.grammar.specs.Grammar.{many, sign}
 use Rattle.vec_base.specs.Words.{is_reserved}
-use Rattle.grammar.specs.Reading.{Outcome, ◌>>=◌, nullable, starts, next_in, read, decides, overlap, nexts}
+use Rattle.grammar.specs.inner.Reading.{Outcome, ◌>>=◌, nullable, starts, next_in, read, decides, overlap, nexts}
 use Rattle.grammar.proofs.Loops.{with_front}
 use Rattle.vec0_columns.specs.declared.text.Arg.{Arg}
-use Rattle.vec0_columns.specs.Columns.{has_name, metric, integer_word, boolean_word, int8, bits, chunk_size}
-use Rattle.vec0_columns.specs.Factored.{key, integer_kind, text_kind, text_or_boolean, scalar_kind, kind, auxiliary_kind, factored_arg, tail, factored_columns, factored_enclosed}
+use Rattle.vec0_columns.specs.ColumnGrammar.{has_name, metric, integer_word, boolean_word, int8, bits, chunk_size}
+use Rattle.vec0_columns.specs.inner.FactoredColumns.{key, integer_kind, text_kind, text_or_boolean, scalar_kind, kind, auxiliary_kind, factored_arg, tail, factored_columns, factored_enclosed}
 
 abbrev paired : Arg → Outcome (List Arg) → Outcome (Arg × List Arg)
 paired v r = r >>= λ y. Ok ((v, y.0), y.1)

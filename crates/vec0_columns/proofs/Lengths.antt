@@ -12,10 +12,10 @@ use Rattle.row_model.specs.declared.schema.Kind.TheVariants.{IntKey, TextKey, In
 use Rattle.row_model.specs.declared.schema.Metric.{Metric}
 use Rattle.row_model.specs.declared.schema.Metric.TheVariants.{L1, L2}
 use Rattle.row_model.specs.declared.schema.Schema.{Schema}
-use Rattle.row_model.specs.Canonical.{metric_text, declared_text, column_text, canonical_columns}
+use Rattle.row_model.specs.CanonicalColumns.{metric_text, declared_text, column_text, canonical_columns}
 use Rattle.vec_base.specs.Words.{is_small_word, is_name, is_reserved}
 use Rattle.row_model.specs.Schemas.{is_key, is_vector, is_partition, is_metadata, is_auxiliary, count_of, has_some, is_misfit_int8, is_misfit_bits, schema_fault, IsValidSchema}
-use Rattle.vec0_columns.specs.Columns.{text_limit}
+use Rattle.vec0_columns.specs.ColumnGrammar.{text_limit}
 use Rattle.vec0_columns.proofs.Written.{head_kept, others_kept, tests_of, has_sizes, neither, width_int8, width_bits, chunk_few}
 
 -- ---- how many columns there are

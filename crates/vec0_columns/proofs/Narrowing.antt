@@ -16,8 +16,8 @@ use Rattle.vec0_columns.specs.declared.text.Spelled.{Spelled}
 use Rattle.vec0_columns.specs.declared.text.Spelled.TheVariants.{Int8, Bits, Plain}
 use Rattle.vec0_columns.specs.declared.text.Arg.{Arg}
 use Rattle.vec0_columns.specs.declared.text.Arg.TheVariants as args
-use Rattle.vec0_columns.specs.Columns.{has_name, kind_of, columns_of, sizes_of, first_or, schema_of, is_bits_with_metric, is_size, rule_where, least, text_fault, answer_by, answer_of, IsAnswer}
-use Rattle.vec0_columns.specs.Narrowed.{narrow, narrow_spelled, narrow_arg}
+use Rattle.vec0_columns.specs.ColumnGrammar.{has_name, kind_of, columns_of, sizes_of, first_or, schema_of, is_bits_with_metric, is_size, rule_where, least, text_fault, answer_by, answer_of, IsAnswer}
+use Rattle.vec0_columns.specs.inner.NarrowedNumbers.{narrow, narrow_spelled, narrow_arg}
 
 narrow_small : (n : ℕ) → n ≤ 65535 → narrow n ≡ n
 narrow_small n l = cond-true (nat_le n 65535) n 65535 (le-leb n 65535 l)

@@ -3,8 +3,8 @@ use Rattle.std.proofs.Common.{◌≡◌, ℕ, List, sym, ap, ◌∙◌}
 use Rattle.vec_literal.specs.Tokens.{tokens}
 use Rattle.grammar.proofs.Laws.{one_value}
 use Rattle.row_model.specs.declared.schema.Schema.{Schema}
-use Rattle.vec0_columns.specs.Columns.{Declares, schema_of}
-use Rattle.vec0_columns.specs.Factored.{factored_columns}
+use Rattle.vec0_columns.specs.ColumnGrammar.{Declares, schema_of}
+use Rattle.vec0_columns.specs.inner.FactoredColumns.{factored_columns}
 use Rattle.vec0_columns.proofs.ColumnLines.{columns_same}
 use Rattle.vec0_columns.proofs.ColumnLoop.{columns_decides}
 

@@ -16,16 +16,16 @@ use Rattle.row_model.specs.declared.schema.Kind.TheVariants.{IntKey, TextKey, In
 use Rattle.row_model.specs.declared.schema.Metric.{Metric}
 use Rattle.row_model.specs.declared.schema.Metric.TheVariants.{L1, L2}
 use Rattle.row_model.specs.declared.schema.Schema.{Schema}
-use Rattle.row_model.specs.Canonical.{metric_text, canonical_columns}
+use Rattle.row_model.specs.CanonicalColumns.{metric_text, canonical_columns}
 use Rattle.vec_base.specs.Words.{is_name_byte, is_small_letter, is_small_word, is_name, is_reserved}
 use Rattle.row_model.specs.Schemas.{schema_fault, IsValidSchema, is_misfit_int8, is_misfit_bits, has_some}
 use Rattle.vec0_columns.specs.declared.text.Spelled.{Spelled}
 use Rattle.vec0_columns.specs.declared.text.Spelled.TheVariants.{Int8, Bits, Plain}
 use Rattle.vec0_columns.specs.declared.text.Arg.{Arg}
 use Rattle.vec0_columns.specs.declared.text.Arg.TheVariants as args
-use Rattle.vec0_columns.specs.CanonicalLexemes.{size_lexemes, declared_lexemes, column_lexemes, canonical_lexemes}
-use Rattle.vec0_columns.specs.Columns.{Declares, integer_word, boolean_word, text_word, blob_word, stands_for, primary_key, partition_key, metric, vector, int8, bits, column, auxiliary, chunk_size, arg, columns, columns_of, sizes_of, schema_of, is_bits_with_metric, is_size, text_fault, least, rule_where, kind_of, first_or}
-use Rattle.vec0_columns.specs.Parts.{spelled_kind, column_part, parts_of}
+use Rattle.vec0_columns.specs.inner.CanonicalLexemes.{size_lexemes, declared_lexemes, column_lexemes, canonical_lexemes}
+use Rattle.vec0_columns.specs.ColumnGrammar.{Declares, integer_word, boolean_word, text_word, blob_word, stands_for, primary_key, partition_key, metric, vector, int8, bits, column, auxiliary, chunk_size, arg, columns, columns_of, sizes_of, schema_of, is_bits_with_metric, is_size, text_fault, least, rule_where, kind_of, first_or}
+use Rattle.vec0_columns.specs.inner.CanonicalParts.{spelled_kind, column_part, parts_of}
 use Rattle.vec0_columns.proofs.Lengths.{canonical_short}
 use Rattle.vec0_columns.proofs.Written.{has_sizes, neither, width_int8, width_bits, chunk_few, size_last, lexemes_of_canonical}
 

@@ -13,15 +13,15 @@ use Rattle.row_model.specs.declared.schema.Kind.TheVariants.{IntKey, TextKey, In
 use Rattle.row_model.specs.declared.schema.Metric.{Metric}
 use Rattle.row_model.specs.declared.schema.Metric.TheVariants.{L1, L2}
 use Rattle.row_model.specs.declared.schema.Schema.{Schema}
-use Rattle.row_model.specs.Canonical.{metric_text, declared_text, column_text, canonical_columns}
+use Rattle.row_model.specs.CanonicalColumns.{metric_text, declared_text, column_text, canonical_columns}
 use Rattle.vec_base.specs.Words.{is_small_letter, is_name_byte, is_small_word, is_name, is_reserved}
 use Rattle.row_model.specs.Schemas.{is_key, is_vector, is_partition, is_metadata, is_auxiliary, count_of, has_twins, takes_hidden_name, schema_fault, IsValidSchema, is_misfit_int8, is_misfit_bits, is_misfit_chunk, has_some}
 use Rattle.vec_literal.specs.Lexemes.{Lexeme, lexemes, word_lexeme, number_lexeme, mark_lexeme}
-use Rattle.vec_literal.specs.Stretches.{is_pair}
+use Rattle.vec_literal.specs.inner.Stretches.{is_pair}
 use Rattle.vec_literal.specs.Tokens.{is_letter, is_word_byte, is_word_text, is_number_text}
 use Rattle.vec_literal.proofs.Decimals.{decimal_number}
 use Rattle.vec_literal.proofs.Following.{HasTokens, whole_text, has_nothing, space_before, word_before, number_before, mark_before, ends_word, stops, unpaired}
-use Rattle.vec0_columns.specs.CanonicalLexemes.{size_lexemes, declared_lexemes, column_lexemes, canonical_lexemes}
+use Rattle.vec0_columns.specs.inner.CanonicalLexemes.{size_lexemes, declared_lexemes, column_lexemes, canonical_lexemes}
 
 -- ---- names are words
 

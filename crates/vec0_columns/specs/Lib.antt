@@ -1,5 +1,2 @@
-pub mod CanonicalLexemes
-pub mod Columns
-pub mod Factored
-pub mod Narrowed
-pub mod Parts
+pub mod ColumnGrammar
+pub mod inner

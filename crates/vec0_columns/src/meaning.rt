@@ -1,7 +1,7 @@
 ghost use Rattle.std.specs.Prelude.{◌≡◌, true, ℕ, List, map, length, nat_lt, IfOk};
 ghost use Rattle.std.specs.List.{list_all, list_any, count_by};
 ghost use Rattle.row_model.specs.Schemas.{IsValidSchema, schema_fault};
-ghost use Rattle.vec0_columns.specs.Columns.{
+ghost use Rattle.vec0_columns.specs.ColumnGrammar.{
   IsAnswer,
   answer_of,
   columns_of,
@@ -14,7 +14,7 @@ ghost use Rattle.vec0_columns.specs.Columns.{
   rule_where,
   sizes_of,
 };
-ghost use Rattle.vec0_columns.specs.Narrowed.{narrow, narrow_spelled, narrow_arg};
+ghost use Rattle.vec0_columns.specs.inner.NarrowedNumbers.{narrow, narrow_spelled, narrow_arg};
 
 use crate::rule::schema_rule;
 use crate::text::{Arg, Spelled};

@@ -3,7 +3,7 @@ ghost use Rattle.vec_literal.specs.Tokens.{Token, tokens};
 ghost use Rattle.grammar.specs.Grammar.{Spells, SpellsFront};
 ghost use Rattle.row_model.specs.Schemas.{IsValidSchema};
 ghost use Rattle.vec0_columns.specs.declared.text.Arg.{Arg as Parts};
-ghost use Rattle.vec0_columns.specs.Columns.{
+ghost use Rattle.vec0_columns.specs.ColumnGrammar.{
   Declares,
   DeclaresAt,
   IsAnswer,

@@ -1,10 +1,10 @@
 ghost use Rattle.std.specs.Prelude.{◌≡◌, true, IfOk};
 ghost use Rattle.std.specs.List.{list_all};
-ghost use Rattle.grammar.specs.Gives.{rest_of, Gives};
+ghost use Rattle.grammar.specs.inner.ReaderResults.{rest_of, Gives};
 ghost use Rattle.row_model.specs.declared.schema.Kind.{Kind};
-ghost use Rattle.grammar.specs.Reading.{read, starts};
-ghost use Rattle.vec0_columns.specs.Columns.{has_name, int8, bits, chunk_size, metric, integer_word, boolean_word};
-ghost use Rattle.vec0_columns.specs.Factored.{key, integer_kind, text_kind, kind, scalar_kind, text_or_boolean, auxiliary_kind, factored_arg, tail, factored_columns};
+ghost use Rattle.grammar.specs.inner.Reading.{read, starts};
+ghost use Rattle.vec0_columns.specs.ColumnGrammar.{has_name, int8, bits, chunk_size, metric, integer_word, boolean_word};
+ghost use Rattle.vec0_columns.specs.inner.FactoredColumns.{key, integer_kind, text_kind, kind, scalar_kind, text_or_boolean, auxiliary_kind, factored_arg, tail, factored_columns};
 
 use grammar::{Reader, Stop};
 use row_model::{Kind, Metric};
@@ -27,7 +27,7 @@ pub enum Arg {
 }
 
 /// Reads a metric.
-#[tactic(auto, unfolding(crate::specs::Columns::metric))]
+#[tactic(auto, unfolding(crate::specs::ColumnGrammar::metric))]
 fn metric(reader: &mut Reader<'_>) -> Result<Metric, Stop>
     ensures { Gives (λ x. x) result (read metric (rest_of reader.old)) (rest_of reader.new) }
 {
@@ -43,7 +43,7 @@ fn metric(reader: &mut Reader<'_>) -> Result<Metric, Stop>
 }
 
 /// Reads a vector of bytes.
-#[tactic(auto, unfolding(crate::specs::Columns::int8, crate::specs::Columns::metric))]
+#[tactic(auto, unfolding(crate::specs::ColumnGrammar::int8, crate::specs::ColumnGrammar::metric))]
 fn int8(reader: &mut Reader<'_>) -> Result<Spelled, Stop>
     ensures { Gives (λ x. x) result (read int8 (rest_of reader.old)) (rest_of reader.new) }
 {
@@ -60,7 +60,7 @@ fn int8(reader: &mut Reader<'_>) -> Result<Spelled, Stop>
 }
 
 /// Reads a vector of bits.
-#[tactic(auto, unfolding(crate::specs::Columns::bits, crate::specs::Columns::metric))]
+#[tactic(auto, unfolding(crate::specs::ColumnGrammar::bits, crate::specs::ColumnGrammar::metric))]
 fn bits(reader: &mut Reader<'_>) -> Result<Spelled, Stop>
     ensures { Gives (λ x. x) result (read bits (rest_of reader.old)) (rest_of reader.new) }
 {
@@ -77,7 +77,7 @@ fn bits(reader: &mut Reader<'_>) -> Result<Spelled, Stop>
 }
 
 /// Whether INTEGER or INT is at hand.
-#[tactic(auto, using(grammar::proofs::Places::next_more), unfolding(crate::specs::Columns::integer_word))]
+#[tactic(auto, using(grammar::proofs::Places::next_more), unfolding(crate::specs::ColumnGrammar::integer_word))]
 fn at_integer(reader: &Reader<'_>) -> bool
     ensures { result ≡ starts integer_word (rest_of reader.now) }
 {
@@ -85,7 +85,7 @@ fn at_integer(reader: &Reader<'_>) -> bool
 }
 
 /// Reads INTEGER or INT.
-#[tactic(auto, unfolding(crate::specs::Columns::integer_word))]
+#[tactic(auto, unfolding(crate::specs::ColumnGrammar::integer_word))]
 fn integer_word(reader: &mut Reader<'_>) -> Result<(), Stop>
     ensures { Gives (λ x. x) result (read integer_word (rest_of reader.old)) (rest_of reader.new) }
 {
@@ -97,7 +97,7 @@ fn integer_word(reader: &mut Reader<'_>) -> Result<(), Stop>
 }
 
 /// Reads BOOLEAN or BOOL.
-#[tactic(auto, unfolding(crate::specs::Columns::boolean_word))]
+#[tactic(auto, unfolding(crate::specs::ColumnGrammar::boolean_word))]
 fn boolean_word(reader: &mut Reader<'_>) -> Result<(), Stop>
     ensures { Gives (λ x. x) result (read boolean_word (rest_of reader.old)) (rest_of reader.new) }
 {
@@ -109,7 +109,7 @@ fn boolean_word(reader: &mut Reader<'_>) -> Result<(), Stop>
 }
 
 /// Whether a key is at hand, whatever the kinds of the keys.
-#[tactic(auto, using(grammar::proofs::Places::next_more), unfolding(crate::specs::Factored::key))]
+#[tactic(auto, using(grammar::proofs::Places::next_more), unfolding(crate::specs::inner::FactoredColumns::key))]
 fn at_key(reader: &Reader<'_>) -> bool
     ensures { (primary partition : Kind) → result ≡ starts (key primary partition) (rest_of reader.now) }
 {
@@ -117,7 +117,7 @@ fn at_key(reader: &Reader<'_>) -> bool
 }
 
 /// Reads a key, which makes the column one of the two kinds.
-#[tactic(auto, unfolding(crate::specs::Factored::key))]
+#[tactic(auto, unfolding(crate::specs::inner::FactoredColumns::key))]
 fn key(reader: &mut Reader<'_>, primary: Kind, partition: Kind) -> Result<Spelled, Stop>
     ensures { Gives (λ x. x) result (read (key primary partition) (rest_of reader.old)) (rest_of reader.new) }
 {
@@ -133,7 +133,7 @@ fn key(reader: &mut Reader<'_>, primary: Kind, partition: Kind) -> Result<Spelle
 }
 
 /// Reads the kind of a column of integers.
-#[tactic(auto, unfolding(crate::specs::Factored::integer_kind))]
+#[tactic(auto, unfolding(crate::specs::inner::FactoredColumns::integer_kind))]
 fn integer_kind(reader: &mut Reader<'_>) -> Result<Spelled, Stop>
     ensures { Gives (λ x. x) result (read integer_kind (rest_of reader.old)) (rest_of reader.new) }
 {
@@ -146,7 +146,7 @@ fn integer_kind(reader: &mut Reader<'_>) -> Result<Spelled, Stop>
 }
 
 /// Reads the kind of a column of texts.
-#[tactic(auto, unfolding(crate::specs::Factored::text_kind))]
+#[tactic(auto, unfolding(crate::specs::inner::FactoredColumns::text_kind))]
 fn text_kind(reader: &mut Reader<'_>) -> Result<Spelled, Stop>
     ensures { Gives (λ x. x) result (read text_kind (rest_of reader.old)) (rest_of reader.new) }
 {
@@ -159,7 +159,7 @@ fn text_kind(reader: &mut Reader<'_>) -> Result<Spelled, Stop>
 }
 
 /// Reads the kind of a column of texts or truth values.
-#[tactic(auto, unfolding(crate::specs::Factored::text_or_boolean, crate::specs::Factored::text_kind))]
+#[tactic(auto, unfolding(crate::specs::inner::FactoredColumns::text_or_boolean, crate::specs::inner::FactoredColumns::text_kind))]
 fn text_or_boolean(reader: &mut Reader<'_>) -> Result<Spelled, Stop>
     ensures { Gives (λ x. x) result (read text_or_boolean (rest_of reader.old)) (rest_of reader.new) }
 {
@@ -172,7 +172,7 @@ fn text_or_boolean(reader: &mut Reader<'_>) -> Result<Spelled, Stop>
 }
 
 /// Reads the kind of a column of integers, texts or truth values.
-#[tactic(auto, unfolding(crate::specs::Factored::scalar_kind, crate::specs::Factored::integer_kind, crate::specs::Columns::integer_word))]
+#[tactic(auto, unfolding(crate::specs::inner::FactoredColumns::scalar_kind, crate::specs::inner::FactoredColumns::integer_kind, crate::specs::ColumnGrammar::integer_word))]
 fn scalar_kind(reader: &mut Reader<'_>) -> Result<Spelled, Stop>
     ensures { Gives (λ x. x) result (read scalar_kind (rest_of reader.old)) (rest_of reader.new) }
 {
@@ -184,7 +184,7 @@ fn scalar_kind(reader: &mut Reader<'_>) -> Result<Spelled, Stop>
 }
 
 /// Reads the kind of a column that is no auxiliary one.
-#[tactic(auto, unfolding(crate::specs::Factored::kind, crate::specs::Columns::int8, crate::specs::Columns::bits))]
+#[tactic(auto, unfolding(crate::specs::inner::FactoredColumns::kind, crate::specs::ColumnGrammar::int8, crate::specs::ColumnGrammar::bits))]
 fn kind(reader: &mut Reader<'_>) -> Result<Spelled, Stop>
     ensures { Gives (λ x. x) result (read kind (rest_of reader.old)) (rest_of reader.new) }
 {
@@ -198,7 +198,7 @@ fn kind(reader: &mut Reader<'_>) -> Result<Spelled, Stop>
 }
 
 /// Reads the kind of an auxiliary column.
-#[tactic(auto, unfolding(crate::specs::Factored::auxiliary_kind))]
+#[tactic(auto, unfolding(crate::specs::inner::FactoredColumns::auxiliary_kind))]
 fn auxiliary_kind(reader: &mut Reader<'_>) -> Result<Spelled, Stop>
     ensures { Gives (λ x. x) result (read auxiliary_kind (rest_of reader.old)) (rest_of reader.new) }
 {
@@ -215,7 +215,7 @@ fn auxiliary_kind(reader: &mut Reader<'_>) -> Result<Spelled, Stop>
 }
 
 /// Reads the size of a chunk.
-#[tactic(auto, unfolding(crate::specs::Columns::chunk_size))]
+#[tactic(auto, unfolding(crate::specs::ColumnGrammar::chunk_size))]
 fn chunk_size(reader: &mut Reader<'_>) -> Result<Arg, Stop>
     ensures reads { Gives (λ x. x) result (read chunk_size (rest_of reader.old)) (rest_of reader.new) }
     ensures named { IfOk result (λ a. has_name a ≡ true) }
@@ -227,7 +227,7 @@ fn chunk_size(reader: &mut Reader<'_>) -> Result<Arg, Stop>
 }
 
 /// Reads one of the parts.
-#[tactic(auto, unfolding(crate::specs::Factored::factored_arg, crate::specs::Columns::chunk_size))]
+#[tactic(auto, unfolding(crate::specs::inner::FactoredColumns::factored_arg, crate::specs::ColumnGrammar::chunk_size))]
 fn argument(reader: &mut Reader<'_>) -> Result<Arg, Stop>
     ensures reads { Gives (λ x. x) result (read factored_arg (rest_of reader.old)) (rest_of reader.new) }
     ensures named { IfOk result (λ a. has_name a ≡ true) }
@@ -247,7 +247,7 @@ fn argument(reader: &mut Reader<'_>) -> Result<Arg, Stop>
 }
 
 /// Reads a comma and one of the parts.
-#[tactic(auto, unfolding(crate::specs::Factored::tail))]
+#[tactic(auto, unfolding(crate::specs::inner::FactoredColumns::tail))]
 fn tail(reader: &mut Reader<'_>) -> Result<Arg, Stop>
     ensures reads { Gives (λ x. x) result (read tail (rest_of reader.old)) (rest_of reader.new) }
     ensures named { IfOk result (λ a. has_name a ≡ true) }

@@ -1,9 +1,9 @@
 ghost use Rattle.std.specs.Prelude.{◌≡◌, ◌++◌, codes, string_bytes, IfOk, OnOk};
 ghost use Rattle.std.specs.Fmt.{decimal};
 ghost use Rattle.std.specs.List.{flat_map};
-ghost use Rattle.row_model.specs.Canonical.{metric_text, declared_text, column_text, canonical_columns};
+ghost use Rattle.row_model.specs.CanonicalColumns.{metric_text, declared_text, column_text, canonical_columns};
 ghost use Rattle.row_model.specs.Schemas.{IsValidSchema};
-ghost use Rattle.vec0_columns.specs.Columns.{Declares};
+ghost use Rattle.vec0_columns.specs.ColumnGrammar.{Declares};
 
 use row_model::{Column, Kind, Metric, Schema};
 use std::alloc::{AllocError, Global};

@@ -11,7 +11,7 @@ use Rattle.vec_literal.specs.declared.token.TokenSort.{TokenSort}
 use Rattle.vec_literal.specs.declared.token.TokenSort.TheVariants as sorts
 use Rattle.vec_literal.specs.Held.{IsHeld}
 use Rattle.vec_literal.specs.Lexemes.{Lexeme, lexemes, word_lexeme, mark_lexeme}
-use Rattle.vec_literal.specs.Stretches.{is_pair, is_single}
+use Rattle.vec_literal.specs.inner.Stretches.{is_pair, is_single}
 use Rattle.vec_literal.specs.Tokens.{is_word_text}
 use Rattle.vec_literal.specs.ValueTexts.{value_text}
 use Rattle.vec_literal.proofs.Following.{HasTokens, whole_text, has_nothing, space_before, word_before, mark_before, ends_word, unpaired}

@@ -14,7 +14,7 @@ use Rattle.vec_literal.specs.Bits.{SpellsBits}
 use Rattle.vec_literal.specs.Int8.{SpellsInt8}
 use Rattle.vec_literal.proofs.Int8Laws.{no_quote}
 use Rattle.vec_literal.specs.Tokens.{unquoted, enclosed, is_text_literal, is_hex_to_quote, begins_blob, is_blob_literal}
-use Rattle.vec_literal.specs.Values.{text_value, quoted_bytes, undoubled, paired_bytes, blob_value}
+use Rattle.vec_literal.specs.LiteralValues.{text_value, quoted_bytes, undoubled, paired_bytes, blob_value}
 
 -- ---- text literals
 

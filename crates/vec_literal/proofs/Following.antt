@@ -10,7 +10,7 @@ use Rattle.vec_literal.specs.declared.token.Token.{Token as Found}
 use Rattle.vec_literal.specs.declared.token.TokenSort.{TokenSort}
 use Rattle.vec_literal.specs.declared.token.TokenSort.TheVariants as sorts
 use Rattle.vec_literal.specs.Lexemes.{Lexeme, lexeme_of, lexemes, word_lexeme, number_lexeme, mark_lexeme}
-use Rattle.vec_literal.specs.Stretches.{sort_at, is_single, is_pair, EndsAt, IsTokenAt}
+use Rattle.vec_literal.specs.inner.Stretches.{sort_at, is_single, is_pair, EndsAt, IsTokenAt}
 use Rattle.vec_literal.specs.Tokens.{is_white, is_letter, is_word_byte, is_word_text, is_number_text, begins_blob, is_mark_text, is_spelling, IsWhite, tokens}
 use Rattle.vec_literal.proofs.Lexing.{white_left_out, tokens_end, tokens_found}
 use Rattle.vec_literal.proofs.Marks.{single_ends}

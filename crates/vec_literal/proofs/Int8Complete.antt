@@ -13,7 +13,7 @@ use Rattle.vec_literal.specs.declared.int8.Number.{Number}
 use Rattle.vec_literal.specs.declared.int8.Stage.{Stage}
 use Rattle.vec_literal.specs.declared.int8.Stage.TheVariants.{Start, Opened, Comma, Minus, Digits, Between, Closed}
 use Rattle.vec_literal.specs.declared.int8.Reader.{Reader}
-use Rattle.vec_literal.specs.Int8Reading.{byte_of, more_digits, stage_after, next_digit, with_element, ended, read_byte, read_bytes, reader_at}
+use Rattle.vec_literal.specs.inner.Int8Reading.{byte_of, more_digits, stage_after, next_digit, with_element, ended, read_byte, read_bytes, reader_at}
 use Rattle.vec_literal.proofs.Int8Kept.{digit_range, Shows, first_shows, more_below, more_above, more_shows, FitsAs, shown_fits, Kept, element_kept}
 use Rattle.vec_literal.proofs.Int8Sound.{end_stage}
 

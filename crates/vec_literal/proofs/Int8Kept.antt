@@ -16,7 +16,7 @@ use Rattle.std.proofs.lemmas.Str.{digit_value_digit}
 use Rattle.vec_literal.specs.Int8.{is_digits, SpellsNumber, IsElement, IsFirstMisfit}
 use Rattle.vec_literal.specs.declared.int8.Number.{Number}
 use Rattle.vec_literal.specs.declared.int8.Stage.{Stage}
-use Rattle.vec_literal.specs.Int8Reading.{byte_of, more_digits, with_byte, with_element}
+use Rattle.vec_literal.specs.inner.Int8Reading.{byte_of, more_digits, with_byte, with_element}
 
 -- a digit: its range and its value
 

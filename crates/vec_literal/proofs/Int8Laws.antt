@@ -12,7 +12,7 @@ use Rattle.vec_literal.specs.declared.int8.Stage.TheVariants.{Start, Opened, Com
 use Rattle.vec_literal.specs.declared.int8.Reader.{Reader}
 use Rattle.vec_literal.specs.declared.int8.LitFault.{LitFault}
 use Rattle.vec_literal.specs.declared.int8.LitFault.TheVariants.{Place, Range, OddHex, Memory}
-use Rattle.vec_literal.specs.Int8Reading.{read_byte, read_bytes, reader_at, is_closed, outcome_of}
+use Rattle.vec_literal.specs.inner.Int8Reading.{read_byte, read_bytes, reader_at, is_closed, outcome_of}
 use Rattle.vec_literal.proofs.Int8Complete.{list_reads, moved}
 use Rattle.vec_literal.proofs.Int8Elements.{bare_element, Awaits, opens_closed, listed_closed}
 use Rattle.vec_literal.proofs.Int8Kept.{Kept, misfit_not_all, one_misfit}

@@ -13,7 +13,7 @@ use Rattle.vec_literal.specs.declared.int8.Number.{Number}
 use Rattle.vec_literal.specs.declared.int8.Stage.{Stage}
 use Rattle.vec_literal.specs.declared.int8.Stage.TheVariants.{Start, Opened, Comma, Minus, Digits, Between, Closed}
 use Rattle.vec_literal.specs.declared.int8.Reader.{Reader}
-use Rattle.vec_literal.specs.Int8Reading.{byte_of, more_digits, first_digit, next_digit, number_start, after_element, stage_after, with_element, ended_in, ended, read_byte, read_bytes, reader_at}
+use Rattle.vec_literal.specs.inner.Int8Reading.{byte_of, more_digits, first_digit, next_digit, number_start, after_element, stage_after, with_element, ended_in, ended, read_byte, read_bytes, reader_at}
 use Rattle.vec_literal.proofs.Int8Elements.{bare_element, blank_more, Listed, Opens, Awaits, opens_awaits, opens_space, opens_closed, awaits_space, listed_comma, listed_space, listed_closed, list_space}
 use Rattle.vec_literal.proofs.Int8Kept.{Shows, first_shows, digits_more, push_shows, sign, signed_value, signed_spelled, FitsAs, shown_fits, Kept, element_kept}
 

@@ -3,7 +3,7 @@ use Rattle.std.proofs.Common.{◌≡◌, ℕ, ◌<◌, length, take, get_or, fal
 use Rattle.vec_literal.specs.Faults.{IsInt8Fault}
 use Rattle.vec_literal.specs.declared.int8.LitFault.TheVariants.{Place, Range}
 use Rattle.vec_literal.specs.declared.int8.Stage.TheVariants.{Start, Digits, Closed}
-use Rattle.vec_literal.specs.Int8Reading.{read_byte, reader_at}
+use Rattle.vec_literal.specs.inner.Int8Reading.{read_byte, reader_at}
 use Rattle.vec_literal.proofs.Int8Laws.{Reads, no_reader, end_answers, refused_answers, fault_of_answer}
 
 -- a byte that no number may have behind its digits, or none behind a zero

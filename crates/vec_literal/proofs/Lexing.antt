@@ -8,7 +8,7 @@ use Rattle.vec_literal.specs.declared.token.Token.{Token as Found}
 use Rattle.vec_literal.specs.declared.token.TokenSort.{TokenSort}
 use Rattle.vec_literal.specs.declared.token.TokenSort.TheVariants as sorts
 use Rattle.vec_literal.specs.Tokens.{is_white, spells_front, Longest, NoneIn, IsLongest, IsWhite, Token, token_of, bad_at, sort_of, or_shorter, longest_of, with_first, tokens_of, tokens}
-use Rattle.vec_literal.specs.Stretches.{run_end}
+use Rattle.vec_literal.specs.inner.Stretches.{run_end}
 use Rattle.vec_literal.proofs.Sorts.{one_sort}
 
 -- the sort that a front spells, as it is computed

@@ -15,7 +15,7 @@ use Rattle.std.specs.Option.{option_map, option_map_or}
 use Rattle.std.specs.Str.{IsUtf8, is_utf8}
 use Rattle.vec_literal.specs.declared.token.TokenSort.TheVariants as sorts
 use Rattle.vec_literal.specs.Lexemes.{Lexeme, number_lexeme, mark_lexeme, text_lexeme, blob_lexeme}
-use Rattle.vec_literal.specs.Stretches.{sort_at, is_single, is_pair, is_quoted_text, EndsAt}
+use Rattle.vec_literal.specs.inner.Stretches.{sort_at, is_single, is_pair, is_quoted_text, EndsAt}
 use Rattle.vec_literal.specs.Tokens.{is_white, is_mark_text, begins_blob, is_hex_to_quote, is_spelling, unquoted, enclosed}
 use Rattle.vec_literal.specs.ValueTexts.{doubled, quoted, hex_text, blob_text}
 use Rattle.vec_literal.proofs.Decimals.{decimal_number}

@@ -6,7 +6,7 @@ use Rattle.std.proofs.lemmas.Slice.Eq.{bytes_eq-Decides}
 use Rattle.std.specs.Prelude.{nat_le, bytes_eq}
 use Rattle.std.specs.List.{list_all, list_any, slice_range}
 use Rattle.vec_literal.specs.Tokens.{is_mark_text, marks}
-use Rattle.vec_literal.specs.Stretches.{EndsAt, EndsNowhere, is_single, is_pair}
+use Rattle.vec_literal.specs.inner.Stretches.{EndsAt, EndsNowhere, is_single, is_pair}
 
 -- bytes that equal one of some short texts are short
 short_by : (bs : List ℕ) (ms : List (List ℕ)) → list_all (λ m. nat_le (length m) 2) ms ≡ true → list_any (λ m. bytes_eq bs m) ms ≡ true → length bs ≤ 2

@@ -6,7 +6,7 @@ use Rattle.std.proofs.lemmas.List.Folds.{list_all-append}
 use Rattle.std.proofs.lemmas.List.Sums.{prefix_len_stops}
 use Rattle.std.specs.List.{list_all, prefix_len, slice_range}
 use Rattle.std.specs.Str.{IsUtf8}
-use Rattle.vec_literal.specs.Stretches.{is_plain, is_quoted_text, run_end, EndsAt, EndsNowhere, IsPart, LongestEnd}
+use Rattle.vec_literal.specs.inner.Stretches.{is_plain, is_quoted_text, run_end, EndsAt, EndsNowhere, IsPart, LongestEnd}
 use Rattle.vec_literal.proofs.Runs.{run_to}
 use Rattle.vec_literal.proofs.Texts.{part_endless, part_ends, part_closed, part_goes_on, part_utf8}
 

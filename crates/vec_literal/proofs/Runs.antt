@@ -6,7 +6,7 @@ use Rattle.std.proofs.lemmas.Bool.{and_parts, and_from, both_ways, cond-true, co
 use Rattle.std.specs.List.{list_all, prefix_len}
 use Rattle.std.specs.Char.{is_ascii_hexdigit}
 use Rattle.vec_literal.specs.Tokens.{is_hex_to_quote}
-use Rattle.vec_literal.specs.Stretches.{EndsAt, EndsNowhere, run_end}
+use Rattle.vec_literal.specs.inner.Stretches.{EndsAt, EndsNowhere, run_end}
 
 -- the first k elements pass if each of them does
 run_passes : (f : ℕ → Bool) (bs : List ℕ) (k : ℕ) → k ≤ length bs → ((i : ℕ) → i < k → f (get_or bs i 0) ≡ true) → list_all f (take k bs) ≡ true

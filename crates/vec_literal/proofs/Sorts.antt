@@ -11,7 +11,7 @@ use Rattle.std.specs.Str.{is_utf8}
 use Rattle.vec_literal.specs.declared.token.TokenSort.{TokenSort}
 use Rattle.vec_literal.specs.declared.token.TokenSort.TheVariants as sorts
 use Rattle.vec_literal.specs.Tokens.{is_letter, is_word_byte, is_hex_to_quote, begins_blob, is_mark_text, is_spelling, is_blob_sort, spells_front, NoneIn}
-use Rattle.vec_literal.specs.Stretches.{sort_at, is_single, is_pair, is_quoted_text, EndsAt, EndsNowhere, IsTokenAt}
+use Rattle.vec_literal.specs.inner.Stretches.{sort_at, is_single, is_pair, is_quoted_text, EndsAt, EndsNowhere, IsTokenAt}
 use Rattle.vec_literal.proofs.Marks.{MarkSize, mark_size}
 
 -- what the first bytes of a token of the sort are

@@ -10,7 +10,7 @@ use Rattle.std.specs.Prelude.{Result, Ok, Err}
 use Rattle.std.specs.Result.{MatchResult, is_ok}
 use Rattle.std.specs.Str.{IsUtf8, is_utf8}
 use Rattle.vec_literal.specs.Tokens.{unquoted}
-use Rattle.vec_literal.specs.Stretches.{is_plain, is_quoted_text}
+use Rattle.vec_literal.specs.inner.Stretches.{is_plain, is_quoted_text}
 
 -- whether there is a text, and it is UTF-8
 abbrev is_utf8_some : Option (List ℕ) → Bool

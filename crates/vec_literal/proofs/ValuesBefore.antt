@@ -24,7 +24,7 @@ use Rattle.vec_literal.specs.Bits.{SpellsBits}
 use Rattle.vec_literal.specs.Held.{AreBytes, IsHeld}
 use Rattle.vec_literal.specs.Int8.{IsElement, elements_text, int8_text}
 use Rattle.vec_literal.specs.Lexemes.{Lexeme, word_lexeme, mark_lexeme, text_lexeme, blob_lexeme}
-use Rattle.vec_literal.specs.Values.{text_value, blob_value}
+use Rattle.vec_literal.specs.LiteralValues.{text_value, blob_value}
 use Rattle.vec_literal.specs.ValueTexts.{doubled, quoted, hex_text, blob_text, value_text}
 use Rattle.vec_literal.proofs.BitsLaws.{decoded_spelled}
 use Rattle.vec_literal.proofs.Enclosed.{pairs_front}

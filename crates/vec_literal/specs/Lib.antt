@@ -2,9 +2,8 @@ pub mod Bits
 pub mod Faults
 pub mod Held
 pub mod Int8
-pub mod Int8Reading
 pub mod Lexemes
-pub mod Stretches
+pub mod LiteralValues
 pub mod Tokens
 pub mod ValueTexts
-pub mod Values
+pub mod inner

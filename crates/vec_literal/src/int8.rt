@@ -6,7 +6,7 @@ ghost use Rattle.vec_literal.specs.Int8.{SpellsInt8, elements_text, int8_text, i
 ghost use Rattle.vec_literal.specs.declared.int8.LitFault.{LitFault as Fault};
 ghost use Rattle.vec_literal.specs.declared.int8.LitFault.TheVariants.{Memory as WantOfMemory};
 ghost use Rattle.vec_literal.specs.Faults.{ReadsAs, FaultsAs, IsInt8Fault};
-ghost use Rattle.vec_literal.specs.Int8Reading.{number_start, first_digit, after_element};
+ghost use Rattle.vec_literal.specs.inner.Int8Reading.{number_start, first_digit, after_element};
 
 use std::alloc::{AllocError, Global};
 use vec_base::{Bytes, Memory, Txt};
@@ -71,7 +71,7 @@ struct Reader {
 }
 
 impl Reader {
-    ghost use Rattle.vec_literal.specs.Int8Reading.{ReadsByte, with_element, ended, reader_at, outcome_of};
+    ghost use Rattle.vec_literal.specs.inner.Int8Reading.{ReadsByte, with_element, ended, reader_at, outcome_of};
 
     /// A reader that has read nothing.
     fn new(alloc: Global) -> Reader
@@ -156,7 +156,7 @@ enum Stage {
 }
 
 impl Stage {
-    ghost use Rattle.vec_literal.specs.Int8Reading.{after_space, after_mark, stage_after};
+    ghost use Rattle.vec_literal.specs.inner.Int8Reading.{after_space, after_mark, stage_after};
 
     /// The stage after the byte, or `None` where the byte does not fit the form.
     fn after(self, byte: u8) -> Option<Stage>
@@ -265,7 +265,7 @@ const TOO_LARGE: u16 = 1000;
 impl Number {
     ghost use Rattle.std.specs.Prelude.{IsTrue};
     ghost use Rattle.std.specs.Char.{is_ascii_digit};
-    ghost use Rattle.vec_literal.specs.Int8Reading.{byte_of, next_digit};
+    ghost use Rattle.vec_literal.specs.inner.Int8Reading.{byte_of, next_digit};
 
     /// The byte of the element, or `None` where the number is outside -128 to 127.
     fn byte(self) -> Option<u8>

@@ -1,6 +1,6 @@
 ghost use Rattle.std.specs.Prelude.{◌≡◌, true, false, IfOk};
 ghost use Rattle.vec_literal.specs.Tokens.{is_text_literal, is_blob_literal};
-ghost use Rattle.vec_literal.specs.Values.{text_value, quoted_bytes, undoubled, blob_value};
+ghost use Rattle.vec_literal.specs.LiteralValues.{text_value, quoted_bytes, undoubled, blob_value};
 
 use crate::bits::read_bits;
 use std::alloc::{AllocError, Global};

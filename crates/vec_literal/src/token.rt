@@ -1,6 +1,6 @@
 ghost use Rattle.std.specs.Char.{is_ascii_digit, is_ascii_hexdigit};
 ghost use Rattle.std.specs.Prelude.{MatchOption, drop, length, true, ◌<◌, ◌≡◌, ◌≤◌};
-ghost use Rattle.vec_literal.specs.Stretches.{
+ghost use Rattle.vec_literal.specs.inner.Stretches.{
   EndsNowhere,
   IsPart,
   IsTokenAt,

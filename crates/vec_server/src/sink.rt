@@ -1,10 +1,10 @@
 ghost use Rattle.std.specs.Prelude.{◌≡◌, ◌≤◌, ◌<◌, length, take, IfOk, OnOk, OnErr, None};
 ghost use Rattle.std.specs.Io.KnownBytes.{Appends};
-ghost use Rattle.vec_base.specs.declared.sink.Wrote.TheVariants.{Took, Failed};
+ghost use Rattle.vec_base.specs.declared.sink.WriteOutcome.TheVariants.{Took, Failed};
 ghost use Rattle.vec_base.specs.Streams.{Rose};
 
 use std::io::{self, Write};
-use vec_base::{Sink, Wrote};
+use vec_base::{Sink, WriteOutcome};
 
 /// A writer that is flushed at each write. It holds no bytes itself. Where the flush fails, the
 /// write has failed, though the writer may have taken bytes.
@@ -38,7 +38,7 @@ impl<W: Write + Drop> StdSink<W> {
     }
 
     /// Turns the writer's outcome into an answer, and counts a failure.
-    fn answer(&mut self, outcome: io::Result<usize>) -> Wrote
+    fn answer(&mut self, outcome: io::Result<usize>) -> WriteOutcome
         ensures took { IfOk outcome (λ n. result ≡ Took n) }
         ensures failed { OnErr outcome (result ≡ Failed) }
         ensures faults { OnErr outcome (Rose self.old.faults self.new.faults) }
@@ -46,10 +46,10 @@ impl<W: Write + Drop> StdSink<W> {
         ensures later { self.old.faults ≤ self.new.faults }
     {
         match outcome {
-            Ok(count) => Wrote::Took(count),
+            Ok(count) => WriteOutcome::Took(count),
             Err(_) => {
                 self.faults = self.faults.saturating_add(1);
-                Wrote::Failed
+                WriteOutcome::Failed
             }
         }
     }
@@ -60,7 +60,7 @@ impl<W: Write + Drop> Sink for StdSink<W> {
 
     ghost faults = { λ s. s.faults };
 
-    fn write(&mut self, bytes: &[u8]) -> Wrote {
+    fn write(&mut self, bytes: &[u8]) -> WriteOutcome {
         let outcome = self.write_once(bytes);
         self.answer(outcome)
     }

@@ -1,10 +1,10 @@
 ghost use Rattle.std.specs.Prelude.{◌≡◌, ◌↔◌, ◌+◌, ◌<◌, ◌≤◌, ◌^◌, length, IfOk, OnOk, OnErr, None};
 ghost use Rattle.std.specs.Io.KnownBytes.{ReadConsumes};
-ghost use Rattle.vec_base.specs.declared.source.Got.TheVariants.{Took, End, Failed};
+ghost use Rattle.vec_base.specs.declared.source.ReadOutcome.TheVariants.{Took, End, Failed};
 ghost use Rattle.vec_base.specs.Streams.{Rose};
 
 use std::io::{self, Read};
-use vec_base::{Got, Source};
+use vec_base::{ReadOutcome, Source};
 
 /// The most bytes that are given.
 const MOST: u64 = 1 << 40;
@@ -45,7 +45,7 @@ impl<R: Read + Drop> StdSource<R> {
     }
 
     /// Turns the reader's outcome into an answer, and counts the bytes or the failure.
-    fn answer(&mut self, outcome: io::Result<usize>) -> Got
+    fn answer(&mut self, outcome: io::Result<usize>) -> ReadOutcome
         requires { IfOk outcome (λ n. self.old.given + n ≤ 2 ^ 40) }
         ensures took { IfOk outcome (λ n. 0 < n → result ≡ Took n) }
         ensures end { (result ≡ End) ↔ (outcome ≡ Ok 0) }
@@ -57,23 +57,23 @@ impl<R: Read + Drop> StdSource<R> {
         ensures later { self.old.faults ≤ self.new.faults }
     {
         match outcome {
-            Ok(0) => Got::End,
+            Ok(0) => ReadOutcome::End,
             Ok(count) => {
                 self.given += count as u64;
-                Got::Took(count)
+                ReadOutcome::Took(count)
             }
             Err(_) => self.fail(),
         }
     }
 
-    fn fail(&mut self) -> Got
+    fn fail(&mut self) -> ReadOutcome
         ensures failed { result ≡ Failed }
         ensures given { self.new.given ≡ self.old.given }
         ensures faults { Rose self.old.faults self.new.faults }
         ensures later { self.old.faults ≤ self.new.faults }
     {
         self.faults = self.faults.saturating_add(1);
-        Got::Failed
+        ReadOutcome::Failed
     }
 }
 
@@ -84,7 +84,7 @@ impl<R: Read + Drop> Source for StdSource<R> {
 
     ghost faults = { λ s. s.faults };
 
-    fn read(&mut self, room: &mut [u8]) -> Got {
+    fn read(&mut self, room: &mut [u8]) -> ReadOutcome {
         if self.given == MOST {
             return self.fail();
         }

@@ -10,7 +10,7 @@ use Rattle.row_model.specs.Step.{answer_of}
 use Rattle.row_model.specs.Shelled.{AnswersAll}
 use Rattle.vec_shell.specs.declared.shell.Ending.{Ending}
 use Rattle.vec_shell.specs.declared.shell.Ending.TheVariants.{Whole, ReadFault, WriteFault}
-use Rattle.vec_shell.specs.Reads.{Reads}
+use Rattle.vec_shell.specs.ShellTexts.{Reads}
 use Rattle.vec_shell.specs.Headline.{Streams, Ran, status_at}
 use Rattle.vec_shell.specs.Outcome.{RanShell, RanWhole, NoneRefused, OnlyStarved, SomeRefused}
 use Rattle.vec_shell.specs.Statuses.{is_refused, is_faulted, is_starved}

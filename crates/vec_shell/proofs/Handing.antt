@@ -6,7 +6,7 @@ use Rattle.std.proofs.lemmas.Bool.{false≢true}
 use Rattle.vec_base.specs.Streams.{Rose, Gains}
 use Rattle.vec_base.proofs.StreamLaws.{gains-append}
 use Rattle.vec_shell.specs.declared.output.Output.{Output}
-use Rattle.vec_shell.specs.Puts.{Puts}
+use Rattle.vec_shell.specs.inner.Puts.{Puts}
 use Rattle.vec_shell.specs.Sending.{CutOff, Holds, Handed}
 use Rattle.vec_shell.proofs.Writing.{cut_off_front, cut_off_later}
 

@@ -8,8 +8,8 @@ use Rattle.row_model.specs.declared.state.State.{State}
 use Rattle.row_model.specs.declared.request.Reply.{Reply}
 use Rattle.row_model.specs.Shelled.{Answers}
 use Rattle.vec_base.specs.declared.refusal.Refusal.TheVariants.{Syntax, Unsupported, Parameter, Full, BadSchema, TxnState, NoTable, TableExists, NoColumn, WrongType, VectorShape, NotNull, FixedColumn, KRange, KnnForm, Busy, OldSnapshot, Duplicate, RowidsSpent, NoSavepoint, NoSession, NoCursor, TooManyRows, StoreFault, WantOfMemory}
-use Rattle.vec_sql.specs.Reads.{IsRefusal, FailsBy}
-use Rattle.vec_shell.specs.Reads.{Reads}
+use Rattle.vec_sql.specs.StatementReading.{IsRefusal, FailsBy}
+use Rattle.vec_shell.specs.ShellTexts.{Reads}
 
 -- the kept bytes of a longer text are too many as well
 still_long : (n : ℕ) (t : List ℕ) → nat_lt n (length t) ≡ true → nat_lt n (length (take (n + 1) t)) ≡ true

@@ -7,11 +7,11 @@ use Rattle.row_model.specs.declared.request.Reply.{Reply}
 use Rattle.row_model.specs.Shelled.{Answers, AnswersAll}
 use Rattle.row_model.proofs.RunLaws.{answers_all-push}
 use Rattle.vec_shell.specs.declared.cutter.Cutter.{Cutter}
-use Rattle.vec_shell.specs.Reads.{Reads}
+use Rattle.vec_shell.specs.ShellTexts.{Reads}
 use Rattle.vec_shell.specs.Lines.{lines, lines_of}
-use Rattle.vec_shell.specs.Parts.{Stands, Counts}
+use Rattle.vec_shell.specs.inner.ShellParts.{Stands, Counts}
 use Rattle.vec_shell.specs.Pieces.{trim, add_text, texts_of, ends, ended_from, rest_from}
-use Rattle.vec_shell.specs.Progress.{Moment, Progress, Stopped, AnswersPiece, TakesBytes}
+use Rattle.vec_shell.specs.inner.Progress.{Moment, Progress, Stopped, AnswersPiece, TakesBytes}
 use Rattle.vec_shell.specs.Sending.{Sent}
 use Rattle.vec_shell.proofs.PieceLaws.{ended-append, rest-append, texts-append}
 use Rattle.vec_shell.proofs.SentLaws.{sent-append}

@@ -11,13 +11,13 @@ use Rattle.vec_shell.specs.declared.cutter.Cutter.{Cutter}
 use Rattle.vec_shell.specs.declared.tally.Tally.{Tally}
 use Rattle.vec_shell.specs.declared.shell.Ending.{Ending}
 use Rattle.vec_shell.specs.declared.shell.Ending.TheVariants.{Whole, ReadFault, WriteFault}
-use Rattle.vec_shell.specs.Reads.{Reads}
+use Rattle.vec_shell.specs.ShellTexts.{Reads}
 use Rattle.vec_shell.specs.Headline.{Ran, streams}
 use Rattle.vec_shell.specs.Lines.{lines_of}
-use Rattle.vec_shell.specs.Parts.{Stands, Counts}
+use Rattle.vec_shell.specs.inner.ShellParts.{Stands, Counts}
 use Rattle.vec_shell.specs.Pieces.{texts_of, ended_of, rest_of, pieces_of}
-use Rattle.vec_shell.specs.Progress.{Moment, moment, Progress, AnswersPiece, TakesBytes}
-use Rattle.vec_shell.specs.Served.{Served, StatusOf}
+use Rattle.vec_shell.specs.inner.Progress.{Moment, moment, Progress, AnswersPiece, TakesBytes}
+use Rattle.vec_shell.specs.inner.LoopRuns.{Served, StatusOf}
 use Rattle.vec_shell.specs.Statuses.{is_refused, is_faulted, is_starved}
 use Rattle.vec_shell.proofs.PieceLaws.{texts-append}
 use Rattle.vec_shell.proofs.Progressing.{takes_more}

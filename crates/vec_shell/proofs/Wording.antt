@@ -8,7 +8,7 @@ use Rattle.vec_base.specs.declared.value.Value.{Value}
 use Rattle.vec_literal.specs.Int8.{elements_text}
 use Rattle.vec_literal.specs.ValueTexts.{doubled, value_text}
 use Rattle.vec_shell.specs.Lines.{values_text}
-use Rattle.vec_shell.specs.Puts.{element_text, further_elements, further_values}
+use Rattle.vec_shell.specs.inner.Puts.{element_text, further_elements, further_values}
 
 -- quotes are doubled part by part
 doubled_step : (t : Bool) (b : ℕ) (xs ys zs : List ℕ) → xs ≡ ys ++ zs → cond t (39 ∷ 39 ∷ xs) (b ∷ xs) ≡ cond t (39 ∷ 39 ∷ ys) (b ∷ ys) ++ zs

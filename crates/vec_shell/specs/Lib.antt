@@ -1,12 +1,8 @@
 pub mod Headline
 pub mod Lines
 pub mod Outcome
-pub mod Parts
 pub mod Pieces
-pub mod Progress
-pub mod Puts
-pub mod Quotes
-pub mod Reads
 pub mod Sending
-pub mod Served
+pub mod ShellTexts
 pub mod Statuses
+mod inner

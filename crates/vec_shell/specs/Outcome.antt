@@ -8,7 +8,7 @@ use Rattle.row_model.specs.declared.request.Reply.{Reply}
 use Rattle.row_model.specs.Machine.{no_tables}
 use Rattle.row_model.specs.Shelled.{Shelled}
 use Rattle.vec_shell.specs.declared.shell.Ending.TheVariants.{Whole}
-use Rattle.vec_shell.specs.Reads.{Reads}
+use Rattle.vec_shell.specs.ShellTexts.{Reads}
 use Rattle.vec_shell.specs.Headline.{Streams, Ran}
 use Rattle.vec_shell.specs.Sending.{IsFront}
 use Rattle.vec_shell.specs.Statuses.{is_refused, is_faulted, is_starved}

@@ -1,11 +1,11 @@
 ghost use Rattle.std.specs.Prelude.{◌≡◌, ◌≤◌, ℕ, List, [], ◌∷◌, true, MatchBool, IfOk, OnOk, OnErr};
 ghost use Rattle.std.specs.declared.option.Option.{Option};
 ghost use Rattle.vec_base.specs.Streams.{Rose, Gains};
-ghost use Rattle.vec_shell.specs.Puts.{Puts};
+ghost use Rattle.vec_shell.specs.inner.Puts.{Puts};
 ghost use Rattle.vec_shell.specs.Sending.{CutOff, Sent, Handed};
 
 use std::alloc::Global;
-use vec_base::{Bytes, Memory, Sink, Wrote};
+use vec_base::{Bytes, Memory, Sink, WriteOutcome};
 
 /// How many bytes are held before they go to the sink.
 const PIECE: usize = 4096;
@@ -34,9 +34,9 @@ pub(crate) fn write_all<O: Sink>(sink: &mut O, bytes: &[u8]) -> Result<(), Stopp
     let mut at = 0;
     while at < bytes.len() {
         match sink.write(&bytes[at..]) {
-            Wrote::Took(0) => return Err(Stopped),
-            Wrote::Took(count) => at += count,
-            Wrote::Failed => return Err(Stopped),
+            WriteOutcome::Took(0) => return Err(Stopped),
+            WriteOutcome::Took(count) => at += count,
+            WriteOutcome::Failed => return Err(Stopped),
         }
     }
     Ok(())

@@ -1,6 +1,6 @@
 ghost use Rattle.row_model.specs.declared.state.State.{State};
 ghost use Rattle.row_model.specs.Shelled.{Answers};
-ghost use Rattle.vec_shell.specs.Reads.{Reads};
+ghost use Rattle.vec_shell.specs.ShellTexts.{Reads};
 
 use row_model::Reply;
 

@@ -2,12 +2,12 @@ ghost use Rattle.std.specs.Prelude.{◌≡◌, ◌≢◌, ℕ, ◌<◌, List, []
 ghost use Rattle.vec_base.specs.Streams.{Rose};
 ghost use Rattle.row_model.specs.Shelled.{Answers, AnswersAll};
 ghost use Rattle.vec_shell.specs.declared.shell.Ending.TheVariants.{ReadFault};
-ghost use Rattle.vec_shell.specs.Reads.{Reads};
+ghost use Rattle.vec_shell.specs.ShellTexts.{Reads};
 ghost use Rattle.vec_shell.specs.Headline.{Ran, streams};
-ghost use Rattle.vec_shell.specs.Parts.{Stands};
+ghost use Rattle.vec_shell.specs.inner.ShellParts.{Stands};
 ghost use Rattle.vec_shell.specs.Pieces.{trim};
-ghost use Rattle.vec_shell.specs.Progress.{moment, AnswersPiece, TakesBytes};
-ghost use Rattle.vec_shell.specs.Served.{Served, StatusOf};
+ghost use Rattle.vec_shell.specs.inner.Progress.{moment, AnswersPiece, TakesBytes};
+ghost use Rattle.vec_shell.specs.inner.LoopRuns.{Served, StatusOf};
 
 use crate::cutter::Cutter;
 use crate::output::Output;
@@ -16,7 +16,7 @@ use crate::tally::Tally;
 use crate::writer::write_reply;
 use row_model::Reply;
 use std::alloc::Global;
-use vec_base::{Got, Memory, Refusal, Sink, Source};
+use vec_base::{ReadOutcome, Memory, Refusal, Sink, Source};
 
 /// How many bytes are asked of the source at once.
 const BLOCK: usize = 65_536;
@@ -106,15 +106,15 @@ impl<Z: Session> Shell<Z> {
     {
         'reading: loop {
             match source.read(block) {
-                Got::Failed => return Ending::ReadFault,
-                Got::End => {
+                ReadOutcome::Failed => return Ending::ReadFault,
+                ReadOutcome::End => {
                     return if self.answer_piece(sink) {
                         Ending::Whole
                     } else {
                         Ending::WriteFault
                     };
                 }
-                Got::Took(count) => {
+                ReadOutcome::Took(count) => {
                     if !self.take_bytes(sink, &block[..count]) {
                         return Ending::WriteFault;
                     }

@@ -5,7 +5,7 @@ ghost use Rattle.row_model.specs.RefusalTexts.{unsupported_word, refusal_text};
 ghost use Rattle.vec_literal.specs.Int8.{elements_text, int8_text};
 ghost use Rattle.vec_literal.specs.ValueTexts.{doubled, hex_byte, hex_text, value_text};
 ghost use Rattle.vec_shell.specs.Lines.{values_text, row_line, shape_text, lines};
-ghost use Rattle.vec_shell.specs.Puts.{Puts, element_text, further_elements, further_values};
+ghost use Rattle.vec_shell.specs.inner.Puts.{Puts, element_text, further_elements, further_values};
 ghost use Rattle.vec_shell.specs.Sending.{Sent};
 
 use crate::output::Output;

@@ -7,20 +7,20 @@ use Rattle.vec_base.specs.declared.refusal.Refusal.TheVariants as refusals
 use Rattle.vec_base.specs.declared.value.Value.{Value}
 use Rattle.row_model.specs.declared.statement.Statement.{Statement}
 use Rattle.grammar.specs.Parameters.{numbered_tokens}
-use Rattle.grammar.specs.Gives.{refusal_by, refusal_of}
+use Rattle.grammar.specs.inner.ReaderResults.{refusal_by, refusal_of}
 use Rattle.vec_literal.specs.Tokens.{Token}
-use Rattle.vec0_columns.specs.Columns.{text_limit}
+use Rattle.vec0_columns.specs.ColumnGrammar.{text_limit}
 use Rattle.vec_sql.specs.declared.flaw.Flaw.{Flaw}
 use Rattle.vec_sql.specs.declared.flaw.Flaw.TheVariants as flaws
 use Rattle.vec_sql.specs.declared.given.GivenStatement.{GivenStatement}
-use Rattle.vec_sql.specs.Givens.{Concern, concerns, Use, uses}
-use Rattle.vec_sql.specs.Made.{AreFine, AreTaken, FailsGrammar, IsStatementMade, ordered_concerns, ordered_uses, answered}
-use Rattle.vec_sql.specs.Reads.{AllFine, FailsBy, IsFine, IsFirstBad, IsGiven, IsParameterFault, IsRefusal, IsTaken, Means, ParametersFit, SpellsStatement, count_fault, rule_fault, greatest}
+use Rattle.vec_sql.specs.GivenStatements.{Concern, concerns, Use, uses}
+use Rattle.vec_sql.specs.inner.PartMeanings.{AreFine, AreTaken, FailsGrammar, IsStatementMade, ordered_concerns, ordered_uses, answered}
+use Rattle.vec_sql.specs.StatementReading.{AllFine, FailsBy, IsFine, IsFirstBad, IsGiven, IsParameterFault, IsRefusal, IsTaken, Means, ParametersFit, SpellsStatement, count_fault, rule_fault, greatest}
 use Rattle.vec_sql.proofs.Meant.{concerns_ordered, uses_ordered}
 use Rattle.grammar.proofs.Laws.{one_value}
-use Rattle.vec_sql.specs.Factored.{factored_statement}
+use Rattle.vec_sql.specs.inner.FactoredStatements.{factored_statement}
 use Rattle.row_model.specs.WellFormed.{IsWellFormed}
-use Rattle.vec_sql.specs.Formed.{is_formed}
+use Rattle.vec_sql.specs.inner.WellFormedGivens.{is_formed}
 use Rattle.vec_sql.proofs.OneMeaning.{one_meaning}
 use Rattle.vec_sql.proofs.StatementLines.{statement_same, statement_decides}
 use Rattle.vec_sql.proofs.WellFormed.{means_whole}

@@ -4,15 +4,15 @@ use Rattle.std.specs.Prelude.{codes, ◌&&◌}
 use Rattle.std.specs.List.{list_all}
 use Rattle.vec_literal.specs.Tokens.{Token}
 use Rattle.grammar.specs.Grammar.{many, sign, keyword, a_name}
-use Rattle.grammar.specs.Reading.{read, starts, nullable, next_in}
+use Rattle.grammar.specs.inner.Reading.{read, starts, nullable, next_in}
 use Rattle.grammar.proofs.Loops.{with_front, list_first, list_none}
 use Rattle.row_model.specs.WellFormed.{is_filled}
 use Rattle.vec_sql.specs.declared.given.Given.{Given}
 use Rattle.vec_sql.specs.declared.given.Group.{Group}
 use Rattle.vec_sql.specs.declared.given.GivenAssign.{GivenAssign}
 use Rattle.vec_sql.specs.declared.given.GivenTerm.{GivenTerm}
-use Rattle.vec_sql.specs.Statements.{value, group, assignment}
-use Rattle.vec_sql.specs.Factored.{names_list, values_list, groups_list, assignments_list, terms_list, more_names, more_values, more_groups, more_assignments, more_terms, factored_term}
+use Rattle.vec_sql.specs.StatementGrammar.{value, group, assignment}
+use Rattle.vec_sql.specs.inner.FactoredStatements.{names_list, values_list, groups_list, assignments_list, terms_list, more_names, more_values, more_groups, more_assignments, more_terms, factored_term}
 use Rattle.std.proofs.Common.{Bool}
 use Rattle.std.proofs.lemmas.Bool.{and_parts, and_from}
 

@@ -12,9 +12,9 @@ use Rattle.vec_sql.specs.declared.flaw.Flaw.{Flaw}
 use Rattle.vec_sql.specs.declared.flaw.Flaw.TheVariants as flaws
 use Rattle.vec_sql.specs.declared.given.Given.{Given}
 use Rattle.vec_sql.specs.declared.given.Given.TheVariants as givens
-use Rattle.vec_sql.specs.Givens.{Concern, literal, concerns_of, Use, int8}
-use Rattle.vec_sql.specs.Made.{AreFine, AreTaken, IsMade}
-use Rattle.vec_sql.specs.Reads.{Each, place_of, IsFine, IsFirstBad, IsTaken, Takes, GivesInt8}
+use Rattle.vec_sql.specs.GivenStatements.{Concern, literal, concerns_of, Use, int8}
+use Rattle.vec_sql.specs.inner.PartMeanings.{AreFine, AreTaken, IsMade}
+use Rattle.vec_sql.specs.StatementReading.{Each, place_of, IsFine, IsFirstBad, IsTaken, Takes, GivesInt8}
 
 -- ---- one value
 

@@ -10,7 +10,7 @@ use Rattle.vec_base.specs.declared.refusal.Refusal.TheVariants as refusals
 use Rattle.vec_base.specs.declared.value.Value.{Value}
 use Rattle.row_model.specs.declared.schema.Schema.{Schema}
 use Rattle.row_model.specs.declared.statement.Statement.TheVariants as read
-use Rattle.vec0_columns.specs.Columns.{has_name, answer_by, answer_of, IsAnswer, text_fault, schema_of}
+use Rattle.vec0_columns.specs.ColumnGrammar.{has_name, answer_by, answer_of, IsAnswer, text_fault, schema_of}
 use Rattle.vec0_columns.specs.declared.text.Arg.{Arg}
 use Rattle.vec_sql.specs.declared.flaw.Flaw.{Flaw}
 use Rattle.vec_sql.specs.declared.flaw.Flaw.TheVariants as flaws
@@ -23,12 +23,12 @@ use Rattle.vec_sql.specs.declared.given.GivenStatement.TheVariants as statements
 use Rattle.vec_sql.specs.declared.given.GivenTest.{GivenTest}
 use Rattle.vec_sql.specs.declared.given.GivenTest.TheVariants as tests
 use Rattle.vec_sql.specs.declared.given.GivenSelect.{GivenSelect}
-use Rattle.vec_sql.specs.Formed.{is_formed, is_formed_value, are_formed_values, is_formed_group, is_formed_limit, is_formed_test, is_formed_term, is_formed_set, is_formed_select}
+use Rattle.vec_sql.specs.inner.WellFormedGivens.{is_formed, is_formed_value, are_formed_values, is_formed_group, is_formed_limit, is_formed_test, is_formed_term, is_formed_set, is_formed_select}
 use Rattle.vec_sql.proofs.Making.{all_append}
 use Rattle.vec_sql.proofs.Noting.{small_greatest}
-use Rattle.vec_sql.specs.Givens.{Concern, concerns, concerns_of, Use, uses, uses_of, in_test, in_terms, in_sets, in_limit}
-use Rattle.vec_sql.specs.Made.{IsMade, IsStatementMade, ordered_concerns, ordered_uses, test_uses, term_uses, set_uses, limit_uses}
-use Rattle.vec_sql.specs.Reads.{IsFirstBad, greatest}
+use Rattle.vec_sql.specs.GivenStatements.{Concern, concerns, concerns_of, Use, uses, uses_of, in_test, in_terms, in_sets, in_limit}
+use Rattle.vec_sql.specs.inner.PartMeanings.{IsMade, IsStatementMade, ordered_concerns, ordered_uses, test_uses, term_uses, set_uses, limit_uses}
+use Rattle.vec_sql.specs.StatementReading.{IsFirstBad, greatest}
 
 -- ---- a flaw of a part is one of the statement
 
@@ -61,8 +61,8 @@ uses_ordered (statements.Drop name) = refl
 uses_ordered (statements.Insert name names groups) = flat_flat uses_of (λ group. group.values) groups
 uses_ordered (statements.Update name sets terms) = set_parts uses_of sets terms
 uses_ordered (statements.Delete name terms) = flat_flat uses_of (λ term. in_test term.test) terms
-uses_ordered (statements.Select select) = two_parts uses_of select.wanted (in_limit select.limit)
-uses_ordered (statements.Explain select) = two_parts uses_of select.wanted (in_limit select.limit)
+uses_ordered (statements.Select select) = two_parts uses_of select.where_terms (in_limit select.limit)
+uses_ordered (statements.Explain select) = two_parts uses_of select.where_terms (in_limit select.limit)
 uses_ordered (statements.Begin immediate) = refl
 uses_ordered statements.Commit = refl
 uses_ordered statements.Rollback = refl
@@ -76,8 +76,8 @@ concerns_ordered (statements.Drop name) = refl
 concerns_ordered (statements.Insert name names groups) = refl
 concerns_ordered (statements.Update name sets terms) = set_parts concerns_of sets terms
 concerns_ordered (statements.Delete name terms) = flat_flat concerns_of (λ term. in_test term.test) terms
-concerns_ordered (statements.Select select) = two_parts concerns_of select.wanted (in_limit select.limit)
-concerns_ordered (statements.Explain select) = two_parts concerns_of select.wanted (in_limit select.limit)
+concerns_ordered (statements.Select select) = two_parts concerns_of select.where_terms (in_limit select.limit)
+concerns_ordered (statements.Explain select) = two_parts concerns_of select.where_terms (in_limit select.limit)
 concerns_ordered (statements.Begin immediate) = refl
 concerns_ordered statements.Commit = refl
 concerns_ordered statements.Rollback = refl
@@ -139,10 +139,10 @@ small_limit : (limit : Option Given) → is_formed_limit limit ≡ true → AreS
 small_limit None h = tt
 small_limit (Some given) h = small_one given h
 
-small_select : (select : GivenSelect) → is_formed_select select ≡ true → AreSmall (term_uses select.wanted ++ limit_uses select.limit)
+small_select : (select : GivenSelect) → is_formed_select select ≡ true → AreSmall (term_uses select.where_terms ++ limit_uses select.limit)
 small_select select h =
     let parts = and_parts _ _ (and_parts _ _ (and_parts _ _ h).1).1 in
-    all_append (λ used. used.number ≤ 999) (term_uses select.wanted) (limit_uses select.limit) (small_terms select.wanted parts.0) (small_limit select.limit parts.1)
+    all_append (λ used. used.number ≤ 999) (term_uses select.where_terms) (limit_uses select.limit) (small_terms select.where_terms parts.0) (small_limit select.limit parts.1)
 
 pub small_statement : (given : GivenStatement) → is_formed given ≡ true → AreSmall (ordered_uses given)
 small_statement (statements.Create name columns) h = tt

@@ -7,10 +7,10 @@ use Rattle.vec_base.specs.declared.value.Value.{Value}
 use Rattle.vec_sql.specs.declared.parameters.Notes.{Notes}
 use Rattle.vec_sql.specs.declared.given.Given.{Given}
 use Rattle.vec_sql.specs.declared.given.Given.TheVariants as givens
-use Rattle.vec_sql.specs.Givens.{Use, any, int8, bits, uses_of}
-use Rattle.vec_sql.specs.Made.{AreTaken}
-use Rattle.vec_sql.specs.Noted.{Noted, NotesMore, lesser, noted, fault_of}
-use Rattle.vec_sql.specs.Reads.{IsTaken, Takes, parameter, greatest, IsLeastUntaken, IsParameterFault, ParametersFit}
+use Rattle.vec_sql.specs.GivenStatements.{Use, any, int8, bits, uses_of}
+use Rattle.vec_sql.specs.inner.PartMeanings.{AreTaken}
+use Rattle.vec_sql.specs.inner.ParameterNotes.{Noted, NotesMore, lesser, noted, fault_of}
+use Rattle.vec_sql.specs.StatementReading.{IsTaken, Takes, parameter, greatest, IsLeastUntaken, IsParameterFault, ParametersFit}
 use Rattle.vec_sql.proofs.Making.{all_append, flat_more}
 
 -- the greatest number with one more

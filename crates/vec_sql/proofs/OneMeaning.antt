@@ -22,7 +22,7 @@ use Rattle.vec_sql.specs.declared.given.GivenTerm.{GivenTerm}
 use Rattle.vec_sql.specs.declared.given.GivenSelect.{GivenSelect}
 use Rattle.vec_sql.specs.declared.given.GivenStatement.{GivenStatement}
 use Rattle.vec_sql.specs.declared.given.GivenStatement.TheVariants as statements
-use Rattle.vec_sql.specs.Reads.{Each, EachOption, GivesInt8, GivesBits, MeansValue, MeansTest, MeansTerm, MeansAssign, MeansGroup, MeansSelect, MeansInsert, MeansUpdate, MeansDelete, Means, parameter}
+use Rattle.vec_sql.specs.StatementReading.{Each, EachOption, GivesInt8, GivesBits, MeansValue, MeansTest, MeansTerm, MeansAssign, MeansGroup, MeansSelect, MeansInsert, MeansUpdate, MeansDelete, Means, parameter}
 
 -- each part means one thing
 abbrev One : {A B : Type 0} → (A → B → Type 0) → Type 0
@@ -92,7 +92,7 @@ select_one params given s t h k =
       h.table ∙ sym k.table,
       h.items ∙ sym k.items,
       h.order ∙ sym k.order,
-      each_one (MeansTerm params) (term_one params) given.wanted s.wanted t.wanted h.wanted k.wanted,
+      each_one (MeansTerm params) (term_one params) given.where_terms s.where_terms t.where_terms h.where_terms k.where_terms,
       option_one (MeansValue params) (value_one params) given.limit s.limit t.limit h.limit k.limit,
     ) refl
 
@@ -104,14 +104,14 @@ insert_one params name names groups s t h k =
 
 update_one : (params : List Value) (name : List ℕ) (sets : List GivenAssign) (terms : List GivenTerm) (s t : Update) → MeansUpdate params name sets terms s → MeansUpdate params name sets terms t → s ≡ t
 update_one params name sets terms s t h k =
-    ap (λ (x : List ℕ). record { table = x; sets = s.sets; wanted = s.wanted }) (h.table ∙ sym k.table) ∙
-    (ap (λ (x : List Assign). record { table = t.table; sets = x; wanted = s.wanted }) (each_one (MeansAssign params) (set_one params) sets s.sets t.sets h.sets k.sets) ∙
-    ap (λ (x : List Constraint). record { table = t.table; sets = t.sets; wanted = x }) (each_one (MeansTerm params) (term_one params) terms s.wanted t.wanted h.wanted k.wanted))
+    ap (λ (x : List ℕ). record { table = x; sets = s.sets; where_terms = s.where_terms }) (h.table ∙ sym k.table) ∙
+    (ap (λ (x : List Assign). record { table = t.table; sets = x; where_terms = s.where_terms }) (each_one (MeansAssign params) (set_one params) sets s.sets t.sets h.sets k.sets) ∙
+    ap (λ (x : List Constraint). record { table = t.table; sets = t.sets; where_terms = x }) (each_one (MeansTerm params) (term_one params) terms s.where_terms t.where_terms h.where_terms k.where_terms))
 
 delete_one : (params : List Value) (name : List ℕ) (terms : List GivenTerm) (s t : Delete) → MeansDelete params name terms s → MeansDelete params name terms t → s ≡ t
 delete_one params name terms s t h k =
-    ap (λ (x : List ℕ). record { table = x; wanted = s.wanted }) (h.table ∙ sym k.table) ∙
-    ap (λ (x : List Constraint). record { table = t.table; wanted = x }) (each_one (MeansTerm params) (term_one params) terms s.wanted t.wanted h.wanted k.wanted)
+    ap (λ (x : List ℕ). record { table = x; where_terms = s.where_terms }) (h.table ∙ sym k.table) ∙
+    ap (λ (x : List Constraint). record { table = t.table; where_terms = x }) (each_one (MeansTerm params) (term_one params) terms s.where_terms t.where_terms h.where_terms k.where_terms)
 
 pub one_meaning : (params : List Value) (given : GivenStatement) (s t : Statement) → Means params given s → Means params given t → s ≡ t
 one_meaning params (statements.Create name columns) s t h k = h ∙ sym k

@@ -8,10 +8,10 @@ use Rattle.grammar.specs.Parameters.{numbered_tokens}
 use Rattle.grammar.proofs.LiteralLexemes.{none_numbered}
 use Rattle.row_model.specs.declared.statement.Statement.{Statement}
 use Rattle.row_model.specs.WellFormed.{IsWellFormed}
-use Rattle.vec_sql.specs.Canonical.{statement_text}
-use Rattle.vec_sql.specs.Givens.{Use}
-use Rattle.vec_sql.specs.Held.{IsHeldStatement}
-use Rattle.vec_sql.specs.Reads.{SpellsStatement, ParametersFit}
+use Rattle.vec_sql.specs.CanonicalStatements.{statement_text}
+use Rattle.vec_sql.specs.GivenStatements.{Use}
+use Rattle.vec_sql.specs.inner.HeldStatements.{IsHeldStatement}
+use Rattle.vec_sql.specs.StatementReading.{SpellsStatement, ParametersFit}
 use Rattle.vec_sql.proofs.TextLexemes.{statement_lexemes}
 use Rattle.vec_sql.proofs.TextAdds.{adds_statement}
 use Rattle.vec_sql.proofs.TextStatements.{statement_given}

@@ -2,12 +2,12 @@
 use Rattle.std.proofs.Common.{◌≡◌, List, [], Ok, Err}
 use Rattle.vec_literal.specs.Tokens.{Token}
 use Rattle.grammar.specs.Grammar.{Spells, FailsAt}
-use Rattle.grammar.specs.Reading.{read}
+use Rattle.grammar.specs.inner.Reading.{read}
 use Rattle.grammar.proofs.Factoring.{same_fails}
 use Rattle.grammar.proofs.Loops.{whole_found, whole_only, more_fails, err_fails}
 use Rattle.vec_sql.specs.declared.given.GivenStatement.{GivenStatement}
-use Rattle.vec_sql.specs.Factored.{factored_statement}
-use Rattle.vec_sql.specs.Statements.{statement}
+use Rattle.vec_sql.specs.inner.FactoredStatements.{factored_statement}
+use Rattle.vec_sql.specs.StatementGrammar.{statement}
 use Rattle.vec_sql.proofs.StatementLines.{statement_same, statement_decides}
 
 pub spelled_whole : (ts left : List Token) (given : GivenStatement) → read factored_statement ts ≡ Ok (given, left) → left ≡ [] → Spells statement ts given

@@ -2,17 +2,17 @@
 use Rattle.std.proofs.Common.{◌≡◌, List, [], ◌∷◌, true, refl}
 use Rattle.std.specs.Prelude.{codes, ℕ}
 use Rattle.grammar.specs.Grammar.{Part, seq, alt, opt, means, a_word, a_mark, a_name, a_signed_number}
-use Rattle.grammar.specs.Reading.{or_default, decides, overlap}
+use Rattle.grammar.specs.inner.Reading.{or_default, decides, overlap}
 use Rattle.grammar.proofs.Factoring.{Within, Same, within_refl, within_left, within_right, within_later, within_either, within_means, within_seq, spread, same_refl, same_means, same_seq, same_alt, same_opt, same_many, same_behind, same_before}
 use Rattle.vec_base.specs.Words.{is_reserved}
-use Rattle.vec0_columns.specs.Columns.{columns, metric, integer_word, boolean_word, int8, bits, chunk_size}
-use Rattle.vec0_columns.specs.Factored.{factored_columns, key, integer_kind, text_kind, text_or_boolean, scalar_kind, kind, auxiliary_kind, factored_arg, tail}
+use Rattle.vec0_columns.specs.ColumnGrammar.{columns, metric, integer_word, boolean_word, int8, bits, chunk_size}
+use Rattle.vec0_columns.specs.inner.FactoredColumns.{factored_columns, key, integer_kind, text_kind, text_or_boolean, scalar_kind, kind, auxiliary_kind, factored_arg, tail}
 use Rattle.vec0_columns.proofs.ColumnLines.{columns_same}
 use Rattle.vec_sql.specs.declared.given.GivenTest.{GivenTest}
 use Rattle.vec_sql.specs.declared.given.GivenTerm.{GivenTerm}
 use Rattle.vec_sql.specs.declared.given.GivenStatement.TheVariants as statements
-use Rattle.vec_sql.specs.Statements.{term_of, comparison, member, match_of, term, where_part, or_none, order, by_distance, by_rowid, items_part, limit, select, create, drop_table, insert, assignment, update, delete, explain, begin, commit, rollback, savepoint, release, body, statement, op, value, vec_int8, vec_bit, group}
-use Rattle.vec_sql.specs.Factored.{test, factored_term, more_terms, terms_list, factored_where, maybe_where, names_list, assignments_list, maybe_order, maybe_limit, factored_select, factored_create, factored_update, factored_delete, factored_explain, transaction, question, factored_body, factored_statement}
+use Rattle.vec_sql.specs.StatementGrammar.{term_of, comparison, member, match_of, term, where_part, or_none, order, by_distance, by_rowid, items_part, limit, select, create, drop_table, insert, assignment, update, delete, explain, begin, commit, rollback, savepoint, release, body, statement, op, value, vec_int8, vec_bit, group}
+use Rattle.vec_sql.specs.inner.FactoredStatements.{test, factored_term, more_terms, terms_list, factored_where, maybe_where, names_list, assignments_list, maybe_order, maybe_limit, factored_select, factored_create, factored_update, factored_delete, factored_explain, transaction, question, factored_body, factored_statement}
 
 -- ---- terms
 
@@ -55,7 +55,7 @@ maybe_where_same = same_means (or_default []) (opt factored_where) (opt where_pa
 select_same : Same factored_select select
 unfolding factored_select select maybe_order maybe_limit
 select_same =
-    same_means (λ x. record { table = x.1.0; items = x.0; wanted = x.1.1.0; order = x.1.1.1.0; limit = x.1.1.1.1 }) _ _
+    same_means (λ x. record { table = x.1.0; items = x.0; where_terms = x.1.1.0; order = x.1.1.1.0; limit = x.1.1.1.1 }) _ _
     (same_behind (a_word (codes "SELECT")) _ _
     (same_seq items_part items_part _ _ (same_refl items_part)
     (same_behind (a_word (codes "FROM")) _ _

@@ -33,13 +33,13 @@ use Rattle.row_model.specs.declared.statement.Statement.TheVariants.{Create, Dro
 use Rattle.row_model.specs.declared.statement.Test.{Test}
 use Rattle.row_model.specs.declared.statement.Test.TheVariants.{Compare, Member, Match}
 use Rattle.row_model.specs.declared.statement.Update.{Update as UpdateRows}
-use Rattle.row_model.specs.Canonical.{canonical_columns}
+use Rattle.row_model.specs.CanonicalColumns.{canonical_columns}
 use Rattle.row_model.specs.Schemas.{IsValidSchema}
 use Rattle.row_model.specs.WellFormed.{IsWellFormed, IsWellFormedInsert, IsWellFormedUpdate, IsWellFormedDelete, IsWellFormedSelect, is_term, is_whole_test, are_items, is_filled}
-use Rattle.vec0_columns.specs.CanonicalLexemes.{declared_lexemes, column_lexemes, canonical_lexemes}
+use Rattle.vec0_columns.specs.inner.CanonicalLexemes.{declared_lexemes, column_lexemes, canonical_lexemes}
 use Rattle.vec0_columns.proofs.Written.{small_word, canonical_before}
-use Rattle.vec_sql.specs.Canonical.{behind, separated, listed, name_text, group_text, op_text, test_text, term_text, where_text, assign_text, items_text, order_text, limit_text, select_text, insert_text, update_text, delete_text, begin_text, statement_text}
-use Rattle.vec_sql.specs.Held.{AreHeld, IsHeldTest, IsHeldTerm, IsHeldAssign, IsHeldLimit, IsHeldSelect, IsHeldStatement}
+use Rattle.vec_sql.specs.CanonicalStatements.{behind, separated, listed, name_text, group_text, op_text, test_text, term_text, where_text, assign_text, items_text, order_text, limit_text, select_text, insert_text, update_text, delete_text, begin_text, statement_text}
+use Rattle.vec_sql.specs.inner.HeldStatements.{AreHeld, IsHeldTest, IsHeldTerm, IsHeldAssign, IsHeldLimit, IsHeldSelect, IsHeldStatement}
 use Rattle.vec_sql.proofs.TextLexemes.{behind_lexemes, separated_lexemes, listed_lexemes, name_lexemes, group_lexemes, test_lexemes, term_lexemes, where_lexemes, assign_lexemes, items_lexemes, order_lexemes, limit_lexemes, select_lexemes, create_lexemes, insert_lexemes, update_lexemes, delete_lexemes, begin_lexemes, statement_lexemes}
 
 -- ---- words and names
@@ -191,16 +191,16 @@ six_behind a b c d e f =
 
 adds_select : (select : SelectRows) → IsWellFormedSelect select → IsHeldSelect select → Adds (select_text select) ends_value (select_lexemes select)
 adds_select select formed held =
-    let terms = (and_parts (list_all is_term select.wanted) (nat_le (length select.wanted) 64) formed.terms).0 in
+    let terms = (and_parts (list_all is_term select.where_terms) (nat_le (length select.where_terms) 64) formed.terms).0 in
     let items = adds_then (adds_words (codes "SELECT" ∷ []) refl) (adds_items select.items formed.items) (λ rest e. refl) in
     let from = adds_then items (spaced_words (codes "FROM" ∷ []) refl) (λ rest e. refl) in
     let table = adds_then from (adds_named select.table formed.table) (λ rest e. refl) in
-    let wanted = adds_then table (adds_where select.wanted terms held.wanted) (λ rest e. where_ends select.wanted rest e) in
-    let order = adds_then wanted (adds_order select.order) (λ rest e. order_ends select.order rest e) in
+    let where_terms = adds_then table (adds_where select.where_terms terms held.where_terms) (λ rest e. where_ends select.where_terms rest e) in
+    let order = adds_then where_terms (adds_order select.order) (λ rest e. order_ends select.order rest e) in
     let limit = adds_then order (adds_limit select.limit held.limit) (λ rest e. limit_ends select.limit rest e) in
     adds_as
     (ap (λ (z : List Lexeme). word_lexeme (codes "SELECT") ∷ z)
-    (six_behind (items_lexemes select.items) (word_lexeme (codes "FROM") ∷ []) (word_lexeme select.table ∷ []) (where_lexemes select.wanted) (order_lexemes select.order) (limit_lexemes select.limit)))
+    (six_behind (items_lexemes select.items) (word_lexeme (codes "FROM") ∷ []) (word_lexeme select.table ∷ []) (where_lexemes select.where_terms) (order_lexemes select.order) (limit_lexemes select.limit)))
     limit
 
 -- ---- statements
@@ -260,18 +260,18 @@ adds_insert insert formed held =
     (append_assoc (listed_lexemes name_lexemes insert.columns) (mark_lexeme (codes ")") ∷ word_lexeme (codes "VALUES") ∷ []) (listed_lexemes group_lexemes insert.rows)))
     (adds_then (adds_then columns closing (λ rest e. refl)) (adds_rows insert.rows held) (λ rest e. refl))
 
-adds_update : (update : UpdateRows) → IsWellFormedUpdate update → AllByRecursion IsHeldAssign update.sets → AllByRecursion IsHeldTerm update.wanted → Adds (update_text update) ends_value (update_lexemes update)
-adds_update update formed sets wanted =
-    let terms = (and_parts (list_all is_term update.wanted) (nat_le (length update.wanted) 64) formed.terms).0 in
+adds_update : (update : UpdateRows) → IsWellFormedUpdate update → AllByRecursion IsHeldAssign update.sets → AllByRecursion IsHeldTerm update.where_terms → Adds (update_text update) ends_value (update_lexemes update)
+adds_update update formed sets where_terms =
+    let terms = (and_parts (list_all is_term update.where_terms) (nat_le (length update.where_terms) 64) formed.terms).0 in
     let first = adds_then (adds_words (codes "UPDATE" ∷ []) refl) (adds_named update.table formed.table) (λ rest e. refl) in
     let set = adds_then (adds_then first (spaced_words (codes "SET" ∷ []) refl) (λ rest e. refl)) (adds_sets update.sets formed.names sets) (λ rest e. refl) in
-    adds_then set (adds_where update.wanted terms wanted) (λ rest e. where_ends update.wanted rest e)
+    adds_then set (adds_where update.where_terms terms where_terms) (λ rest e. where_ends update.where_terms rest e)
 
-adds_delete : (delete : DeleteRows) → IsWellFormedDelete delete → AllByRecursion IsHeldTerm delete.wanted → Adds (delete_text delete) ends_value (delete_lexemes delete)
-adds_delete delete formed wanted =
-    let terms = (and_parts (list_all is_term delete.wanted) (nat_le (length delete.wanted) 64) formed.terms).0 in
-    adds_then (adds_then (adds_words (codes "DELETE" ∷ codes "FROM" ∷ []) refl) (adds_named delete.table formed.table) (λ rest e. refl)) (adds_where delete.wanted terms wanted)
-    (λ rest e. where_ends delete.wanted rest e)
+adds_delete : (delete : DeleteRows) → IsWellFormedDelete delete → AllByRecursion IsHeldTerm delete.where_terms → Adds (delete_text delete) ends_value (delete_lexemes delete)
+adds_delete delete formed where_terms =
+    let terms = (and_parts (list_all is_term delete.where_terms) (nat_le (length delete.where_terms) 64) formed.terms).0 in
+    adds_then (adds_then (adds_words (codes "DELETE" ∷ codes "FROM" ∷ []) refl) (adds_named delete.table formed.table) (λ rest e. refl)) (adds_where delete.where_terms terms where_terms)
+    (λ rest e. where_ends delete.where_terms rest e)
 
 adds_begin : (immediate : Bool) → Adds (begin_text immediate) ends_value (begin_lexemes immediate)
 adds_begin false = adds_name (codes "BEGIN") refl

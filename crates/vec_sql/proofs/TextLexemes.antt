@@ -18,8 +18,8 @@ use Rattle.row_model.specs.declared.statement.Statement.TheVariants.{Create, Dro
 use Rattle.row_model.specs.declared.statement.Test.{Test}
 use Rattle.row_model.specs.declared.statement.Test.TheVariants.{Compare, Member, Match}
 use Rattle.row_model.specs.declared.statement.Update.{Update as UpdateRows}
-use Rattle.vec0_columns.specs.CanonicalLexemes.{canonical_lexemes}
-use Rattle.vec_sql.specs.Canonical.{op_text}
+use Rattle.vec0_columns.specs.inner.CanonicalLexemes.{canonical_lexemes}
+use Rattle.vec_sql.specs.CanonicalStatements.{op_text}
 
 -- ---- lists
 
@@ -74,7 +74,7 @@ limit_lexemes (Some value) = word_lexeme (codes "LIMIT") ∷ value_lexemes value
 
 -- what stands behind the table's name
 abbrev pub tail_lexemes : SelectRows → List Lexeme
-tail_lexemes select = where_lexemes select.wanted ++ (order_lexemes select.order ++ limit_lexemes select.limit)
+tail_lexemes select = where_lexemes select.where_terms ++ (order_lexemes select.order ++ limit_lexemes select.limit)
 
 abbrev pub select_lexemes : SelectRows → List Lexeme
 select_lexemes select =
@@ -95,10 +95,10 @@ insert_lexemes insert =
 abbrev pub update_lexemes : UpdateRows → List Lexeme
 update_lexemes update =
     word_lexeme (codes "UPDATE") ∷ word_lexeme update.table ∷ word_lexeme (codes "SET") ∷
-    (listed_lexemes assign_lexemes update.sets ++ where_lexemes update.wanted)
+    (listed_lexemes assign_lexemes update.sets ++ where_lexemes update.where_terms)
 
 abbrev pub delete_lexemes : DeleteRows → List Lexeme
-delete_lexemes delete = word_lexeme (codes "DELETE") ∷ word_lexeme (codes "FROM") ∷ word_lexeme delete.table ∷ where_lexemes delete.wanted
+delete_lexemes delete = word_lexeme (codes "DELETE") ∷ word_lexeme (codes "FROM") ∷ word_lexeme delete.table ∷ where_lexemes delete.where_terms
 
 abbrev pub begin_lexemes : Bool → List Lexeme
 begin_lexemes false = word_lexeme (codes "BEGIN") ∷ []

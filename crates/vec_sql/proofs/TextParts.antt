@@ -17,9 +17,9 @@ use Rattle.grammar.proofs.LiteralLexemes.{of_text, of_blob, of_signed_number, gi
 use Rattle.row_model.specs.WellFormed.{is_filled}
 use Rattle.vec_sql.specs.declared.given.Given.{Given}
 use Rattle.vec_sql.specs.declared.given.Given.TheVariants as givens
-use Rattle.vec_sql.specs.Givens.{concerns_of, uses_of}
-use Rattle.vec_sql.specs.Reads.{IsFine, Each, MeansValue}
-use Rattle.vec_sql.specs.Statements.{list_of, in_parentheses, vec_int8, vec_bit, value}
+use Rattle.vec_sql.specs.GivenStatements.{concerns_of, uses_of}
+use Rattle.vec_sql.specs.StatementReading.{IsFine, Each, MeansValue}
+use Rattle.vec_sql.specs.StatementGrammar.{list_of, in_parentheses, vec_int8, vec_bit, value}
 use Rattle.vec_sql.proofs.TextLexemes.{behind_lexemes, separated_lexemes, listed_lexemes}
 
 -- ---- lists

@@ -8,7 +8,7 @@ use Rattle.vec_base.specs.Words.{is_name}
 use Rattle.vec_base.specs.declared.value.Value.{Value}
 use Rattle.vec_literal.specs.Lexemes.{Lexeme, word_lexeme, mark_lexeme}
 use Rattle.grammar.specs.Grammar.{Part, seq, alt, opt, means, ◌▸◌, ◌◂◌, a_word, a_mark, a_name}
-use Rattle.grammar.specs.Reading.{or_default}
+use Rattle.grammar.specs.inner.Reading.{or_default}
 use Rattle.grammar.proofs.Lexemes.{LexemesSpell, of_seq, of_means, of_second, of_first, of_left, of_right, of_none, of_some, of_word, of_mark}
 use Rattle.grammar.proofs.LexemesGive.{LexemesGive, give_known, give_more, give_seq, give_means, give_second, give_first, give_left, give_right, give_none, give_some}
 use Rattle.row_model.specs.declared.schema.Schema.{Schema}
@@ -24,18 +24,18 @@ use Rattle.row_model.specs.declared.statement.Statement.TheVariants as read
 use Rattle.row_model.specs.declared.statement.Update.{Update as UpdateRows}
 use Rattle.row_model.specs.Schemas.{IsValidSchema}
 use Rattle.row_model.specs.WellFormed.{IsWellFormed, IsWellFormedInsert, IsWellFormedUpdate, IsWellFormedDelete, IsWellFormedSelect, is_filled, is_term, are_items}
-use Rattle.vec0_columns.specs.CanonicalLexemes.{canonical_lexemes}
-use Rattle.vec0_columns.specs.Parts.{parts_of}
+use Rattle.vec0_columns.specs.inner.CanonicalLexemes.{canonical_lexemes}
+use Rattle.vec0_columns.specs.inner.CanonicalParts.{parts_of}
 use Rattle.vec0_columns.proofs.RoundTrip.{name_spelled, canonical_spelled, schema_back, no_fault}
 use Rattle.vec_sql.specs.declared.given.Given.{Given}
 use Rattle.vec_sql.specs.declared.given.Group.{Group}
 use Rattle.vec_sql.specs.declared.given.GivenSelect.{GivenSelect}
 use Rattle.vec_sql.specs.declared.given.GivenStatement.{GivenStatement}
 use Rattle.vec_sql.specs.declared.given.GivenStatement.TheVariants as statements
-use Rattle.vec_sql.specs.Givens.{concerns_of, in_limit, in_select, in_groups, in_terms, in_sets, group_concerns, uses, item_count, items_in, terms_in}
-use Rattle.vec_sql.specs.Held.{AreHeld, IsHeldTerm, IsHeldAssign, IsHeldLimit, IsHeldSelect, IsHeldStatement}
-use Rattle.vec_sql.specs.Reads.{IsFine, Each, EachOption, MeansValue, MeansTerm, MeansAssign, MeansGroup, MeansSelect, Means, AllFine, count_fault, rule_fault}
-use Rattle.vec_sql.specs.Statements.{list_of, word_for, may_say, group, by_distance, by_rowid, order, items_part, limit, select, create, drop_table, insert, update, delete, explain, begin, commit, rollback_to, rollback, savepoint, release, body, statement}
+use Rattle.vec_sql.specs.GivenStatements.{concerns_of, in_limit, in_select, in_groups, in_terms, in_sets, group_concerns, uses, item_count, items_in, terms_in}
+use Rattle.vec_sql.specs.inner.HeldStatements.{AreHeld, IsHeldTerm, IsHeldAssign, IsHeldLimit, IsHeldSelect, IsHeldStatement}
+use Rattle.vec_sql.specs.StatementReading.{IsFine, Each, EachOption, MeansValue, MeansTerm, MeansAssign, MeansGroup, MeansSelect, Means, AllFine, count_fault, rule_fault}
+use Rattle.vec_sql.specs.StatementGrammar.{list_of, word_for, may_say, group, by_distance, by_rowid, order, items_part, limit, select, create, drop_table, insert, update, delete, explain, begin, commit, rollback_to, rollback, savepoint, release, body, statement}
 use Rattle.vec_sql.proofs.TextLexemes.{listed_lexemes, name_lexemes, group_lexemes, items_lexemes, order_lexemes, limit_lexemes, select_lexemes, create_lexemes, insert_lexemes, update_lexemes, delete_lexemes, begin_lexemes, statement_lexemes}
 use Rattle.vec_sql.proofs.TextParts.{each_more, each_length, each_same, AllGive, list_given, ArePlain, StandsFor, value_given}
 use Rattle.vec_sql.proofs.TextTerms.{both_good, none_plain, both_plain, values_plain, values_mean, IsTerm, where_given, terms_plain, IsAssign, sets_given, sets_plain, IsRow, row_given}
@@ -116,31 +116,31 @@ record IsSelect (given : GivenSelect) (chosen : SelectRows) : Type 0 where
   means : MeansSelect [] given chosen
   plain : ArePlain (in_select given)
   few_items : item_count given.items ≤ 64
-  few_terms : length given.wanted ≤ 64
+  few_terms : length given.where_terms ≤ 64
 
 select_given : (chosen : SelectRows) → IsWellFormedSelect chosen → IsHeldSelect chosen → LexemesGive select (select_lexemes chosen) (λ g. IsSelect g chosen)
 unfolding select
 select_given chosen formed held =
-    let terms = and_parts (list_all is_term chosen.wanted) (nat_le (length chosen.wanted) 64) formed.terms in
-    let few : length chosen.wanted ≤ 64 = leb-true (length chosen.wanted) 64 terms.1 in
-    give_means (λ x. record { table = x.1.0; items = x.0; wanted = x.1.1.0; order = x.1.1.1.0; limit = x.1.1.1.1 }) (λ g. IsSelect g chosen)
+    let terms = and_parts (list_all is_term chosen.where_terms) (nat_le (length chosen.where_terms) 64) formed.terms in
+    let few : length chosen.where_terms ≤ 64 = leb-true (length chosen.where_terms) 64 terms.1 in
+    give_means (λ x. record { table = x.1.0; items = x.0; where_terms = x.1.1.0; order = x.1.1.1.0; limit = x.1.1.1.1 }) (λ g. IsSelect g chosen)
     (λ x h. record {
       means = record {
         table = sym h.1.0;
         items = sym h.0;
-        wanted = each_more IsTerm (MeansTerm []) (λ g t k. k.means) x.1.1.0 chosen.wanted h.1.1.0;
+        where_terms = each_more IsTerm (MeansTerm []) (λ g t k. k.means) x.1.1.0 chosen.where_terms h.1.1.0;
         order = sym h.1.1.1.0;
         limit = limit_means x.1.1.1.1 chosen.limit h.1.1.1.1;
       };
-      plain = both_plain (in_terms x.1.1.0) (in_limit x.1.1.1.1) (terms_plain x.1.1.0 chosen.wanted h.1.1.0) (limit_plain x.1.1.1.1 chosen.limit h.1.1.1.1);
+      plain = both_plain (in_terms x.1.1.0) (in_limit x.1.1.1.1) (terms_plain x.1.1.0 chosen.where_terms h.1.1.0) (limit_plain x.1.1.1.1 chosen.limit h.1.1.1.1);
       few_items = subst (λ (i : Items). item_count i ≤ 64) (sym h.0) (few_items chosen.items formed.items);
-      few_terms = omega (arith, each_length IsTerm x.1.1.0 chosen.wanted h.1.1.0, few);
+      few_terms = omega (arith, each_length IsTerm x.1.1.0 chosen.where_terms h.1.1.0, few);
     })
     (give_second (of_word (codes "SELECT") (codes "SELECT") refl)
     (give_seq (items_given chosen.items formed.items)
     (give_second (of_word (codes "FROM") (codes "FROM") refl)
     (give_seq (give_known (λ (z : List ℕ). z ≡ chosen.table) refl (name_spelled chosen.table formed.table))
-    (give_seq (where_given chosen.wanted terms.0 held.wanted)
+    (give_seq (where_given chosen.where_terms terms.0 held.where_terms)
     (give_seq (give_known (λ (z : Order). z ≡ chosen.order) refl (order_given chosen.order)) (limit_given chosen.limit held.limit)))))))
 
 -- ---- rows
@@ -235,24 +235,24 @@ insert_given chosen formed held =
     (give_second (of_word (codes "VALUES") (codes "VALUES") refl)
     (list_given group group_lexemes IsRow chosen.rows formed.some_row (rows_all (length chosen.columns) chosen.rows (some_by chosen.columns formed.some_name) formed.one_value_each held))))))))
 
-update_given : (chosen : UpdateRows) → IsWellFormedUpdate chosen → AllByRecursion IsHeldAssign chosen.sets → AllByRecursion IsHeldTerm chosen.wanted → LexemesGive update (update_lexemes chosen) (λ g. IsStatement g (read.Update chosen))
+update_given : (chosen : UpdateRows) → IsWellFormedUpdate chosen → AllByRecursion IsHeldAssign chosen.sets → AllByRecursion IsHeldTerm chosen.where_terms → LexemesGive update (update_lexemes chosen) (λ g. IsStatement g (read.Update chosen))
 unfolding update
-update_given chosen formed sets wanted =
-    let terms = and_parts (list_all is_term chosen.wanted) (nat_le (length chosen.wanted) 64) formed.terms in
-    let few : length chosen.wanted ≤ 64 = leb-true (length chosen.wanted) 64 terms.1 in
+update_given chosen formed sets where_terms =
+    let terms = and_parts (list_all is_term chosen.where_terms) (nat_le (length chosen.where_terms) 64) formed.terms in
+    let few : length chosen.where_terms ≤ 64 = leb-true (length chosen.where_terms) 64 terms.1 in
     give_means (λ x. statements.Update x.0 x.1.0 x.1.1) (λ g. IsStatement g (read.Update chosen))
-    (λ x h. (let plain : ArePlain (in_sets x.1.0 ++ in_terms x.1.1) = both_plain (in_sets x.1.0) (in_terms x.1.1) (sets_plain x.1.0 chosen.sets h.1.0) (terms_plain x.1.1 chosen.wanted h.1.1) in
+    (λ x h. (let plain : ArePlain (in_sets x.1.0 ++ in_terms x.1.1) = both_plain (in_sets x.1.0) (in_terms x.1.1) (sets_plain x.1.0 chosen.sets h.1.0) (terms_plain x.1.1 chosen.where_terms h.1.1) in
     record {
       fine = plain.fine;
       unused = plain.unused;
-      counts = counted (statements.Update x.0 x.1.0 x.1.1) (omega arith) (omega (arith, each_length IsTerm x.1.1 chosen.wanted h.1.1, few));
+      counts = counted (statements.Update x.0 x.1.0 x.1.1) (omega arith) (omega (arith, each_length IsTerm x.1.1 chosen.where_terms h.1.1, few));
       rules = refl;
       means = (
         chosen,
         record {
           table = sym h.0;
           sets = each_more IsAssign (MeansAssign []) (λ g t k. k.means) x.1.0 chosen.sets h.1.0;
-          wanted = each_more IsTerm (MeansTerm []) (λ g t k. k.means) x.1.1 chosen.wanted h.1.1;
+          where_terms = each_more IsTerm (MeansTerm []) (λ g t k. k.means) x.1.1 chosen.where_terms h.1.1;
         },
         refl,
       );
@@ -260,25 +260,25 @@ update_given chosen formed sets wanted =
     (give_second (of_word (codes "UPDATE") (codes "UPDATE") refl)
     (give_seq (give_known (λ (z : List ℕ). z ≡ chosen.table) refl (name_spelled chosen.table formed.table))
     (give_second (of_word (codes "SET") (codes "SET") refl)
-    (give_seq (sets_given chosen.sets formed.some_set formed.names sets) (where_given chosen.wanted terms.0 wanted)))))
+    (give_seq (sets_given chosen.sets formed.some_set formed.names sets) (where_given chosen.where_terms terms.0 where_terms)))))
 
-delete_given : (chosen : DeleteRows) → IsWellFormedDelete chosen → AllByRecursion IsHeldTerm chosen.wanted → LexemesGive delete (delete_lexemes chosen) (λ g. IsStatement g (read.Delete chosen))
+delete_given : (chosen : DeleteRows) → IsWellFormedDelete chosen → AllByRecursion IsHeldTerm chosen.where_terms → LexemesGive delete (delete_lexemes chosen) (λ g. IsStatement g (read.Delete chosen))
 unfolding delete
-delete_given chosen formed wanted =
-    let terms = and_parts (list_all is_term chosen.wanted) (nat_le (length chosen.wanted) 64) formed.terms in
-    let few : length chosen.wanted ≤ 64 = leb-true (length chosen.wanted) 64 terms.1 in
+delete_given chosen formed where_terms =
+    let terms = and_parts (list_all is_term chosen.where_terms) (nat_le (length chosen.where_terms) 64) formed.terms in
+    let few : length chosen.where_terms ≤ 64 = leb-true (length chosen.where_terms) 64 terms.1 in
     give_means (λ x. statements.Delete x.0 x.1) (λ g. IsStatement g (read.Delete chosen))
-    (λ x h. (let plain : ArePlain (in_terms x.1) = terms_plain x.1 chosen.wanted h.1 in
+    (λ x h. (let plain : ArePlain (in_terms x.1) = terms_plain x.1 chosen.where_terms h.1 in
     record {
       fine = plain.fine;
       unused = plain.unused;
-      counts = counted (statements.Delete x.0 x.1) (omega arith) (omega (arith, each_length IsTerm x.1 chosen.wanted h.1, few));
+      counts = counted (statements.Delete x.0 x.1) (omega arith) (omega (arith, each_length IsTerm x.1 chosen.where_terms h.1, few));
       rules = refl;
-      means = (chosen, record { table = sym h.0; wanted = each_more IsTerm (MeansTerm []) (λ g t k. k.means) x.1 chosen.wanted h.1 }, refl);
+      means = (chosen, record { table = sym h.0; where_terms = each_more IsTerm (MeansTerm []) (λ g t k. k.means) x.1 chosen.where_terms h.1 }, refl);
     }))
     (give_second (of_word (codes "DELETE") (codes "DELETE") refl)
     (give_second (of_word (codes "FROM") (codes "FROM") refl)
-    (give_seq (give_known (λ (z : List ℕ). z ≡ chosen.table) refl (name_spelled chosen.table formed.table)) (where_given chosen.wanted terms.0 wanted))))
+    (give_seq (give_known (λ (z : List ℕ). z ≡ chosen.table) refl (name_spelled chosen.table formed.table)) (where_given chosen.where_terms terms.0 where_terms))))
 
 chosen_given : (chosen : SelectRows) → IsWellFormedSelect chosen → IsHeldSelect chosen → LexemesGive (means (λ g. statements.Select g) select) (select_lexemes chosen) (λ g. IsStatement g (read.Select chosen))
 chosen_given chosen formed held =

@@ -16,7 +16,7 @@ use Rattle.row_model.specs.declared.statement.Select.{Select}
 use Rattle.row_model.specs.declared.statement.Statement.{Statement}
 use Rattle.row_model.specs.declared.statement.Test.{Test}
 use Rattle.row_model.specs.declared.statement.Update.{Update}
-use Rattle.vec0_columns.specs.Columns.{columns_of, has_name, least, schema_of, text_fault}
+use Rattle.vec0_columns.specs.ColumnGrammar.{columns_of, has_name, least, schema_of, text_fault}
 use Rattle.vec0_columns.specs.declared.text.Arg.{Arg}
 use Rattle.vec0_columns.specs.declared.text.Arg.TheVariants as args
 use Rattle.vec_sql.specs.declared.given.Group.{Group}
@@ -27,9 +27,9 @@ use Rattle.vec_sql.specs.declared.given.GivenTerm.{GivenTerm}
 use Rattle.vec_sql.specs.declared.given.GivenSelect.{GivenSelect}
 use Rattle.vec_sql.specs.declared.given.GivenStatement.{GivenStatement}
 use Rattle.vec_sql.specs.declared.given.GivenStatement.TheVariants as statements
-use Rattle.vec_sql.specs.Formed.{is_formed, are_names, are_formed_items, is_formed_group, is_formed_set, is_formed_term, is_formed_test, is_formed_value, is_formed_limit, is_formed_select}
-use Rattle.vec_sql.specs.Givens.{Concern, row, concerns_of, group_concerns, item_count, items_in, terms_in}
-use Rattle.vec_sql.specs.Reads.{AllFine, Each, IsFine, Means, MeansAssign, MeansDelete, MeansGroup, MeansInsert, MeansSelect, MeansTerm, MeansTest, MeansUpdate, MeansValue, count_fault, rule_fault}
+use Rattle.vec_sql.specs.inner.WellFormedGivens.{is_formed, are_names, are_formed_items, is_formed_group, is_formed_set, is_formed_term, is_formed_test, is_formed_value, is_formed_limit, is_formed_select}
+use Rattle.vec_sql.specs.GivenStatements.{Concern, row, concerns_of, group_concerns, item_count, items_in, terms_in}
+use Rattle.vec_sql.specs.StatementReading.{AllFine, Each, IsFine, Means, MeansAssign, MeansDelete, MeansGroup, MeansInsert, MeansSelect, MeansTerm, MeansTest, MeansUpdate, MeansValue, count_fault, rule_fault}
 
 -- ---- schemas
 
@@ -129,15 +129,15 @@ items_whole : (i : Items) → are_formed_items i ≡ true → (64 < item_count i
 items_whole items.All f n = refl
 items_whole (items.Named names) f n = let both = and_parts (list_all is_name names) (is_filled names) f in and_from _ _ both.0 (and_from _ _ both.1 (few_by (length names) n))
 
-select_whole : (params : List Value) (given : GivenSelect) (select : Select) → MeansSelect params given select → is_formed_select given ≡ true → (64 < item_count given.items → ⊥) → (64 < length given.wanted → ⊥) → IsWellFormedSelect select
+select_whole : (params : List Value) (given : GivenSelect) (select : Select) → MeansSelect params given select → is_formed_select given ≡ true → (64 < item_count given.items → ⊥) → (64 < length given.where_terms → ⊥) → IsWellFormedSelect select
 select_whole params given select h f i t =
-    let named = and_parts (is_name given.table) (are_formed_items given.items && (list_all is_formed_term given.wanted && is_formed_limit given.limit)) f in
-    let listed = and_parts (are_formed_items given.items) (list_all is_formed_term given.wanted && is_formed_limit given.limit) named.1 in
-    let termed = and_parts (list_all is_formed_term given.wanted) (is_formed_limit given.limit) listed.1 in
+    let named = and_parts (is_name given.table) (are_formed_items given.items && (list_all is_formed_term given.where_terms && is_formed_limit given.limit)) f in
+    let listed = and_parts (are_formed_items given.items) (list_all is_formed_term given.where_terms && is_formed_limit given.limit) named.1 in
+    let termed = and_parts (list_all is_formed_term given.where_terms) (is_formed_limit given.limit) listed.1 in
     record {
       table = ap (λ (n : List ℕ). is_name n) h.table ∙ named.0;
       items = ap (λ (z : Items). are_items z) h.items ∙ items_whole given.items listed.0 i;
-      terms = terms_whole params given.wanted select.wanted h.wanted termed.0 t;
+      terms = terms_whole params given.where_terms select.where_terms h.where_terms termed.0 t;
     }
 
 insert_whole : (params : List Value) (name : List ℕ) (names : List (List ℕ)) (groups : List Group) (insert : Insert) → MeansInsert params name names groups insert →
@@ -165,13 +165,13 @@ update_whole params name sets terms update h f t =
       table = ap (λ (n : List ℕ). is_name n) h.table ∙ named.0;
       names = each_all (MeansAssign params) is_formed_set (λ set. is_name set.column) (λ x y m k. ap (λ (n : List ℕ). is_name n) m.0 ∙ (and_parts (is_name x.column) (is_formed_value x.value) k).0) sets update.sets h.sets setting.0;
       some_set = each_filled (MeansAssign params) sets update.sets h.sets termed.0;
-      terms = terms_whole params terms update.wanted h.wanted termed.1 t;
+      terms = terms_whole params terms update.where_terms h.where_terms termed.1 t;
     }
 
 delete_whole : (params : List Value) (name : List ℕ) (terms : List GivenTerm) (delete : Delete) → MeansDelete params name terms delete → is_formed (statements.Delete name terms) ≡ true → (64 < length terms → ⊥) → IsWellFormedDelete delete
 delete_whole params name terms delete h f t =
     let named = and_parts (is_name name) (list_all is_formed_term terms) f in
-    record { table = ap (λ (n : List ℕ). is_name n) h.table ∙ named.0; terms = terms_whole params terms delete.wanted h.wanted named.1 t }
+    record { table = ap (λ (n : List ℕ). is_name n) h.table ∙ named.0; terms = terms_whole params terms delete.where_terms h.where_terms named.1 t }
 
 pub means_whole : (params : List Value) (given : GivenStatement) (s : Statement) → is_formed given ≡ true → AllFine given → count_fault given ≡ None → rule_fault given ≡ None → Means params given s → IsWellFormed s
 means_whole params (statements.Create name columns) s f fine c r m =

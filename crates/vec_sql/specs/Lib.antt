@@ -1,9 +1,5 @@
-pub mod Canonical
-pub mod Factored
-pub mod Formed
-pub mod Givens
-pub mod Held
-pub mod Made
-pub mod Noted
-pub mod Reads
-pub mod Statements
+pub mod CanonicalStatements
+pub mod GivenStatements
+pub mod StatementGrammar
+pub mod StatementReading
+mod inner

@@ -1,10 +1,10 @@
 ghost use Rattle.std.specs.Prelude.{◌≡◌, true, IfOk};
-ghost use Rattle.grammar.specs.Gives.{rest_of, Gives};
-ghost use Rattle.grammar.specs.Reading.{read, starts};
+ghost use Rattle.grammar.specs.inner.ReaderResults.{rest_of, Gives};
+ghost use Rattle.grammar.specs.inner.Reading.{read, starts};
 ghost use Rattle.vec_base.specs.Words.{is_name};
-ghost use Rattle.vec_sql.specs.Statements.{begin, commit, drop_table, insert, release, rollback, savepoint};
-ghost use Rattle.vec_sql.specs.Factored.{factored_body, factored_create, factored_delete, factored_explain, factored_statement, factored_update, maybe_mode, mode, question, target, transaction};
-ghost use Rattle.vec_sql.specs.Formed.{is_formed};
+ghost use Rattle.vec_sql.specs.StatementGrammar.{begin, commit, drop_table, insert, release, rollback, savepoint};
+ghost use Rattle.vec_sql.specs.inner.FactoredStatements.{factored_body, factored_create, factored_delete, factored_explain, factored_statement, factored_update, maybe_mode, mode, question, target, transaction};
+ghost use Rattle.vec_sql.specs.inner.WellFormedGivens.{is_formed};
 
 use crate::given::GivenStatement;
 use crate::list::{assignments, groups, names};
@@ -17,7 +17,7 @@ use vec_base::Txt;
 use vec0_columns::columns;
 
 /// Reads a CREATE.
-#[tactic(auto, unfolding(crate::specs::Factored::factored_create))]
+#[tactic(auto, unfolding(crate::specs::inner::FactoredStatements::factored_create))]
 fn create(alloc: Global, reader: &mut Reader<'_>) -> Result<GivenStatement, Stop>
     ensures reads { Gives (λ x. x) result (read factored_create (rest_of reader.old)) (rest_of reader.new) }
     ensures formed { IfOk result (λ given. is_formed given ≡ true) }
@@ -35,7 +35,7 @@ fn create(alloc: Global, reader: &mut Reader<'_>) -> Result<GivenStatement, Stop
 }
 
 /// Reads a DROP.
-#[tactic(auto, unfolding(crate::specs::Statements::drop_table))]
+#[tactic(auto, unfolding(crate::specs::StatementGrammar::drop_table))]
 fn drop_table(reader: &mut Reader<'_>) -> Result<GivenStatement, Stop>
     ensures reads { Gives (λ x. x) result (read drop_table (rest_of reader.old)) (rest_of reader.new) }
     ensures formed { IfOk result (λ given. is_formed given ≡ true) }
@@ -47,7 +47,7 @@ fn drop_table(reader: &mut Reader<'_>) -> Result<GivenStatement, Stop>
 }
 
 /// Reads an INSERT.
-#[tactic(auto, unfolding(crate::specs::Statements::insert, crate::specs::Factored::names_list, crate::specs::Factored::groups_list))]
+#[tactic(auto, unfolding(crate::specs::StatementGrammar::insert, crate::specs::inner::FactoredStatements::names_list, crate::specs::inner::FactoredStatements::groups_list))]
 fn insert(alloc: Global, reader: &mut Reader<'_>) -> Result<GivenStatement, Stop>
     ensures reads { Gives (λ x. x) result (read insert (rest_of reader.old)) (rest_of reader.new) }
     ensures formed { IfOk result (λ given. is_formed given ≡ true) }
@@ -64,7 +64,7 @@ fn insert(alloc: Global, reader: &mut Reader<'_>) -> Result<GivenStatement, Stop
 }
 
 /// Reads an UPDATE.
-#[tactic(auto, unfolding(crate::specs::Factored::factored_update))]
+#[tactic(auto, unfolding(crate::specs::inner::FactoredStatements::factored_update))]
 fn update(alloc: Global, reader: &mut Reader<'_>) -> Result<GivenStatement, Stop>
     ensures reads { Gives (λ x. x) result (read factored_update (rest_of reader.old)) (rest_of reader.new) }
     ensures formed { IfOk result (λ given. is_formed given ≡ true) }
@@ -78,7 +78,7 @@ fn update(alloc: Global, reader: &mut Reader<'_>) -> Result<GivenStatement, Stop
 }
 
 /// Reads a DELETE.
-#[tactic(auto, unfolding(crate::specs::Factored::factored_delete))]
+#[tactic(auto, unfolding(crate::specs::inner::FactoredStatements::factored_delete))]
 fn delete(alloc: Global, reader: &mut Reader<'_>) -> Result<GivenStatement, Stop>
     ensures reads { Gives (λ x. x) result (read factored_delete (rest_of reader.old)) (rest_of reader.new) }
     ensures formed { IfOk result (λ given. is_formed given ≡ true) }
@@ -91,7 +91,7 @@ fn delete(alloc: Global, reader: &mut Reader<'_>) -> Result<GivenStatement, Stop
 }
 
 /// Reads an EXPLAIN.
-#[tactic(auto, unfolding(crate::specs::Factored::factored_explain))]
+#[tactic(auto, unfolding(crate::specs::inner::FactoredStatements::factored_explain))]
 fn explain(alloc: Global, reader: &mut Reader<'_>) -> Result<GivenStatement, Stop>
     ensures reads { Gives (λ x. x) result (read factored_explain (rest_of reader.old)) (rest_of reader.new) }
     ensures formed { IfOk result (λ given. is_formed given ≡ true) }
@@ -102,7 +102,7 @@ fn explain(alloc: Global, reader: &mut Reader<'_>) -> Result<GivenStatement, Sto
 }
 
 /// Whether DEFERRED or IMMEDIATE is at hand.
-#[tactic(auto, using(grammar::proofs::Places::next_more), unfolding(crate::specs::Factored::mode))]
+#[tactic(auto, using(grammar::proofs::Places::next_more), unfolding(crate::specs::inner::FactoredStatements::mode))]
 fn at_mode(reader: &Reader<'_>) -> bool
     ensures { result ≡ starts mode (rest_of reader.now) }
 {
@@ -110,7 +110,7 @@ fn at_mode(reader: &Reader<'_>) -> bool
 }
 
 /// Reads DEFERRED or IMMEDIATE, and answers whether it is IMMEDIATE.
-#[tactic(auto, unfolding(crate::specs::Factored::mode))]
+#[tactic(auto, unfolding(crate::specs::inner::FactoredStatements::mode))]
 fn mode(reader: &mut Reader<'_>) -> Result<bool, Stop>
     ensures { Gives (λ x. x) result (read mode (rest_of reader.old)) (rest_of reader.new) }
 {
@@ -124,7 +124,7 @@ fn mode(reader: &mut Reader<'_>) -> Result<bool, Stop>
 }
 
 /// Reads DEFERRED or IMMEDIATE where one is at hand, and answers whether it is IMMEDIATE.
-#[tactic(auto, unfolding(crate::specs::Factored::maybe_mode))]
+#[tactic(auto, unfolding(crate::specs::inner::FactoredStatements::maybe_mode))]
 fn maybe_mode(reader: &mut Reader<'_>) -> Result<bool, Stop>
     ensures { Gives (λ x. x) result (read maybe_mode (rest_of reader.old)) (rest_of reader.new) }
 {
@@ -137,7 +137,7 @@ fn maybe_mode(reader: &mut Reader<'_>) -> Result<bool, Stop>
 }
 
 /// Reads a BEGIN.
-#[tactic(auto, unfolding(crate::specs::Statements::begin, crate::specs::Factored::maybe_mode, crate::specs::Factored::mode))]
+#[tactic(auto, unfolding(crate::specs::StatementGrammar::begin, crate::specs::inner::FactoredStatements::maybe_mode, crate::specs::inner::FactoredStatements::mode))]
 fn begin(reader: &mut Reader<'_>) -> Result<GivenStatement, Stop>
     ensures reads { Gives (λ x. x) result (read begin (rest_of reader.old)) (rest_of reader.new) }
     ensures formed { IfOk result (λ given. is_formed given ≡ true) }
@@ -149,7 +149,7 @@ fn begin(reader: &mut Reader<'_>) -> Result<GivenStatement, Stop>
 }
 
 /// Whether COMMIT or END is at hand.
-#[tactic(auto, using(grammar::proofs::Places::next_more), unfolding(crate::specs::Statements::commit))]
+#[tactic(auto, using(grammar::proofs::Places::next_more), unfolding(crate::specs::StatementGrammar::commit))]
 fn at_commit(reader: &Reader<'_>) -> bool
     ensures { result ≡ starts commit (rest_of reader.now) }
 {
@@ -157,7 +157,7 @@ fn at_commit(reader: &Reader<'_>) -> bool
 }
 
 /// Reads a COMMIT.
-#[tactic(auto, unfolding(crate::specs::Statements::commit))]
+#[tactic(auto, unfolding(crate::specs::StatementGrammar::commit))]
 fn commit(reader: &mut Reader<'_>) -> Result<GivenStatement, Stop>
     ensures reads { Gives (λ x. x) result (read commit (rest_of reader.old)) (rest_of reader.new) }
     ensures formed { IfOk result (λ given. is_formed given ≡ true) }
@@ -174,7 +174,7 @@ fn commit(reader: &mut Reader<'_>) -> Result<GivenStatement, Stop>
 }
 
 /// Reads TO and the name of a savepoint.
-#[tactic(auto, unfolding(crate::specs::Factored::target))]
+#[tactic(auto, unfolding(crate::specs::inner::FactoredStatements::target))]
 fn target(reader: &mut Reader<'_>) -> Result<Txt, Stop>
     ensures reads { Gives (λ x. x) result (read target (rest_of reader.old)) (rest_of reader.new) }
     ensures formed { IfOk result (λ name. is_name name ≡ true) }
@@ -185,7 +185,7 @@ fn target(reader: &mut Reader<'_>) -> Result<Txt, Stop>
 }
 
 /// Reads a ROLLBACK.
-#[tactic(auto, unfolding(crate::specs::Statements::rollback, crate::specs::Factored::target))]
+#[tactic(auto, unfolding(crate::specs::StatementGrammar::rollback, crate::specs::inner::FactoredStatements::target))]
 fn rollback(reader: &mut Reader<'_>) -> Result<GivenStatement, Stop>
     ensures reads { Gives (λ x. x) result (read rollback (rest_of reader.old)) (rest_of reader.new) }
     ensures formed { IfOk result (λ given. is_formed given ≡ true) }
@@ -201,7 +201,7 @@ fn rollback(reader: &mut Reader<'_>) -> Result<GivenStatement, Stop>
 }
 
 /// Reads a SAVEPOINT.
-#[tactic(auto, unfolding(crate::specs::Statements::savepoint))]
+#[tactic(auto, unfolding(crate::specs::StatementGrammar::savepoint))]
 fn savepoint(reader: &mut Reader<'_>) -> Result<GivenStatement, Stop>
     ensures reads { Gives (λ x. x) result (read savepoint (rest_of reader.old)) (rest_of reader.new) }
     ensures formed { IfOk result (λ given. is_formed given ≡ true) }
@@ -212,7 +212,7 @@ fn savepoint(reader: &mut Reader<'_>) -> Result<GivenStatement, Stop>
 }
 
 /// Reads a RELEASE.
-#[tactic(auto, unfolding(crate::specs::Statements::release))]
+#[tactic(auto, unfolding(crate::specs::StatementGrammar::release))]
 fn release(reader: &mut Reader<'_>) -> Result<GivenStatement, Stop>
     ensures reads { Gives (λ x. x) result (read release (rest_of reader.old)) (rest_of reader.new) }
     ensures formed { IfOk result (λ given. is_formed given ≡ true) }
@@ -224,7 +224,7 @@ fn release(reader: &mut Reader<'_>) -> Result<GivenStatement, Stop>
 }
 
 /// Reads a statement on transactions.
-#[tactic(auto, unfolding(crate::specs::Factored::transaction, crate::specs::Statements::begin, crate::specs::Statements::rollback, crate::specs::Statements::savepoint))]
+#[tactic(auto, unfolding(crate::specs::inner::FactoredStatements::transaction, crate::specs::StatementGrammar::begin, crate::specs::StatementGrammar::rollback, crate::specs::StatementGrammar::savepoint))]
 fn transaction(reader: &mut Reader<'_>) -> Result<GivenStatement, Stop>
     ensures reads { Gives (λ x. x) result (read transaction (rest_of reader.old)) (rest_of reader.new) }
     ensures formed { IfOk result (λ given. is_formed given ≡ true) }
@@ -243,7 +243,7 @@ fn transaction(reader: &mut Reader<'_>) -> Result<GivenStatement, Stop>
 }
 
 /// Reads a SELECT, an EXPLAIN or a statement on transactions.
-#[tactic(auto, unfolding(crate::specs::Factored::question, crate::specs::Factored::factored_select, crate::specs::Factored::factored_explain))]
+#[tactic(auto, unfolding(crate::specs::inner::FactoredStatements::question, crate::specs::inner::FactoredStatements::factored_select, crate::specs::inner::FactoredStatements::factored_explain))]
 fn question(alloc: Global, reader: &mut Reader<'_>) -> Result<GivenStatement, Stop>
     ensures reads { Gives (λ x. x) result (read question (rest_of reader.old)) (rest_of reader.new) }
     ensures formed { IfOk result (λ given. is_formed given ≡ true) }
@@ -259,7 +259,7 @@ fn question(alloc: Global, reader: &mut Reader<'_>) -> Result<GivenStatement, St
 }
 
 /// Reads a statement without its `;`.
-#[tactic(auto, unfolding(crate::specs::Factored::factored_body, crate::specs::Factored::factored_create, crate::specs::Statements::drop_table, crate::specs::Statements::insert, crate::specs::Factored::factored_update, crate::specs::Factored::factored_delete))]
+#[tactic(auto, unfolding(crate::specs::inner::FactoredStatements::factored_body, crate::specs::inner::FactoredStatements::factored_create, crate::specs::StatementGrammar::drop_table, crate::specs::StatementGrammar::insert, crate::specs::inner::FactoredStatements::factored_update, crate::specs::inner::FactoredStatements::factored_delete))]
 fn body(alloc: Global, reader: &mut Reader<'_>) -> Result<GivenStatement, Stop>
     ensures reads { Gives (λ x. x) result (read factored_body (rest_of reader.old)) (rest_of reader.new) }
     ensures formed { IfOk result (λ given. is_formed given ≡ true) }
@@ -280,7 +280,7 @@ fn body(alloc: Global, reader: &mut Reader<'_>) -> Result<GivenStatement, Stop>
 }
 
 /// Reads a statement, with or without a `;` behind it.
-#[tactic(auto, unfolding(crate::specs::Factored::factored_statement))]
+#[tactic(auto, unfolding(crate::specs::inner::FactoredStatements::factored_statement))]
 pub(crate) fn statement(alloc: Global, reader: &mut Reader<'_>) -> Result<GivenStatement, Stop>
     ensures reads { Gives (λ x. x) result (read factored_statement (rest_of reader.old)) (rest_of reader.new) }
     ensures formed { IfOk result (λ given. is_formed given ≡ true) }

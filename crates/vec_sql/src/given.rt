@@ -50,7 +50,7 @@ pub struct GivenTerm {
 pub struct GivenSelect {
     pub table: Txt,
     pub items: Items,
-    pub wanted: List<GivenTerm>,
+    pub where_terms: List<GivenTerm>,
     pub order: Order,
     pub limit: Option<Given>,
 }

@@ -1,12 +1,12 @@
 ghost use Rattle.std.specs.Prelude.{◌≡◌, ◌&&◌, true, IfOk};
 ghost use Rattle.std.specs.List.{list_all};
-ghost use Rattle.grammar.specs.Gives.{rest_of, Gives};
-ghost use Rattle.grammar.specs.Reading.{read};
+ghost use Rattle.grammar.specs.inner.ReaderResults.{rest_of, Gives};
+ghost use Rattle.grammar.specs.inner.Reading.{read};
 ghost use Rattle.vec_base.specs.Words.{is_name};
 ghost use Rattle.row_model.specs.WellFormed.{is_filled};
-ghost use Rattle.vec_sql.specs.Statements.{assignment, group};
-ghost use Rattle.vec_sql.specs.Factored.{assignments_list, groups_list, more_assignments, more_groups, more_names, more_values, names_list, values_list};
-ghost use Rattle.vec_sql.specs.Formed.{are_formed_values, are_names, is_formed_group, is_formed_set, is_formed_value};
+ghost use Rattle.vec_sql.specs.StatementGrammar.{assignment, group};
+ghost use Rattle.vec_sql.specs.inner.FactoredStatements.{assignments_list, groups_list, more_assignments, more_groups, more_names, more_values, names_list, values_list};
+ghost use Rattle.vec_sql.specs.inner.WellFormedGivens.{are_formed_values, are_names, is_formed_group, is_formed_set, is_formed_value};
 
 use crate::given::{Given, GivenAssign, Group};
 use crate::value::value;
@@ -15,7 +15,7 @@ use std::alloc::Global;
 use vec_base::{List, Txt};
 
 /// Reads a comma and a name.
-#[tactic(auto, unfolding(crate::specs::Factored::more_names))]
+#[tactic(auto, unfolding(crate::specs::inner::FactoredStatements::more_names))]
 fn more_names(reader: &mut Reader<'_>) -> Result<Txt, Stop>
     ensures reads { Gives (λ x. x) result (read more_names (rest_of reader.old)) (rest_of reader.new) }
     ensures formed { IfOk result (λ name. is_name name ≡ true) }
@@ -40,7 +40,7 @@ pub(crate) fn names(alloc: Global, reader: &mut Reader<'_>) -> Result<List<Txt>,
 }
 
 /// Reads a comma and a value.
-#[tactic(auto, unfolding(crate::specs::Factored::more_values))]
+#[tactic(auto, unfolding(crate::specs::inner::FactoredStatements::more_values))]
 fn more_values(reader: &mut Reader<'_>) -> Result<Given, Stop>
     ensures reads { Gives (λ x. x) result (read more_values (rest_of reader.old)) (rest_of reader.new) }
     ensures formed { IfOk result (λ given. is_formed_value given ≡ true) }
@@ -65,7 +65,7 @@ pub(crate) fn values(alloc: Global, reader: &mut Reader<'_>) -> Result<List<Give
 }
 
 /// Reads the values of a row, with parentheses around them.
-#[tactic(auto, unfolding(crate::specs::Statements::group, crate::specs::Factored::values_list))]
+#[tactic(auto, unfolding(crate::specs::StatementGrammar::group, crate::specs::inner::FactoredStatements::values_list))]
 fn group(alloc: Global, reader: &mut Reader<'_>) -> Result<Group, Stop>
     ensures reads { Gives (λ x. x) result (read group (rest_of reader.old)) (rest_of reader.new) }
     ensures formed { IfOk result (λ group. is_formed_group group ≡ true) }
@@ -77,7 +77,7 @@ fn group(alloc: Global, reader: &mut Reader<'_>) -> Result<Group, Stop>
 }
 
 /// Reads a comma and the values of a row.
-#[tactic(auto, unfolding(crate::specs::Factored::more_groups))]
+#[tactic(auto, unfolding(crate::specs::inner::FactoredStatements::more_groups))]
 fn more_groups(alloc: Global, reader: &mut Reader<'_>) -> Result<Group, Stop>
     ensures reads { Gives (λ x. x) result (read more_groups (rest_of reader.old)) (rest_of reader.new) }
     ensures formed { IfOk result (λ group. is_formed_group group ≡ true) }
@@ -102,7 +102,7 @@ pub(crate) fn groups(alloc: Global, reader: &mut Reader<'_>) -> Result<List<Grou
 }
 
 /// Reads a column and the value that it is set to.
-#[tactic(auto, unfolding(crate::specs::Statements::assignment))]
+#[tactic(auto, unfolding(crate::specs::StatementGrammar::assignment))]
 fn assignment(reader: &mut Reader<'_>) -> Result<GivenAssign, Stop>
     ensures reads { Gives (λ x. x) result (read assignment (rest_of reader.old)) (rest_of reader.new) }
     ensures formed { IfOk result (λ set. is_formed_set set ≡ true) }
@@ -114,7 +114,7 @@ fn assignment(reader: &mut Reader<'_>) -> Result<GivenAssign, Stop>
 }
 
 /// Reads a comma, a column and the value that it is set to.
-#[tactic(auto, unfolding(crate::specs::Factored::more_assignments))]
+#[tactic(auto, unfolding(crate::specs::inner::FactoredStatements::more_assignments))]
 fn more_assignments(reader: &mut Reader<'_>) -> Result<GivenAssign, Stop>
     ensures reads { Gives (λ x. x) result (read more_assignments (rest_of reader.old)) (rest_of reader.new) }
     ensures formed { IfOk result (λ set. is_formed_set set ≡ true) }

@@ -1,10 +1,10 @@
 ghost use Rattle.std.specs.Prelude.{◌≡◌, IfOk, length};
 ghost use Rattle.std.specs.List.{flat_map};
 ghost use Rattle.vec_base.specs.declared.value.Value.TheVariants as values;
-ghost use Rattle.vec_sql.specs.Givens.{concerns_of, group_concerns, uses_of};
-ghost use Rattle.vec_sql.specs.Made.{AreTaken, IsMade, group_uses, set_concerns, set_uses, term_concerns, term_uses, test_concerns, test_uses};
-ghost use Rattle.vec_sql.specs.Reads.{Each, GivesBits, GivesInt8, MeansAssign, MeansGroup, MeansTerm, MeansTest, MeansValue, Takes, parameter};
-ghost use Rattle.vec_sql.specs.Givens.{int8, bits};
+ghost use Rattle.vec_sql.specs.GivenStatements.{concerns_of, group_concerns, uses_of};
+ghost use Rattle.vec_sql.specs.inner.PartMeanings.{AreTaken, IsMade, group_uses, set_concerns, set_uses, term_concerns, term_uses, test_concerns, test_uses};
+ghost use Rattle.vec_sql.specs.StatementReading.{Each, GivesBits, GivesInt8, MeansAssign, MeansGroup, MeansTerm, MeansTest, MeansValue, Takes, parameter};
+ghost use Rattle.vec_sql.specs.GivenStatements.{int8, bits};
 
 use crate::flaw::Flaw;
 use crate::given::{Given, GivenAssign, GivenTerm, GivenTest, Group};

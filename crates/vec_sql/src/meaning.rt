@@ -1,12 +1,12 @@
 ghost use Rattle.std.specs.Prelude.{◌≡◌, ◌++◌, true, length, List as Seq, IfOk};
 ghost use Rattle.vec_base.specs.declared.value.Value.{Value as Given_value};
 ghost use Rattle.std.specs.List.{flat_map, list_all};
-ghost use Rattle.vec0_columns.specs.Columns.{has_name};
+ghost use Rattle.vec0_columns.specs.ColumnGrammar.{has_name};
 ghost use Rattle.vec_sql.specs.declared.given.GivenStatement.TheVariants as statements;
-ghost use Rattle.vec_sql.specs.Formed.{is_formed};
-ghost use Rattle.vec_sql.specs.Givens.{group_concerns};
-ghost use Rattle.vec_sql.specs.Made.{AreTaken, IsMade, IsStatementMade, group_uses, limit_concerns, limit_uses, set_concerns, set_uses, term_concerns, term_uses};
-ghost use Rattle.vec_sql.specs.Reads.{EachOption, MeansDelete, MeansInsert, MeansSelect, MeansUpdate, MeansValue};
+ghost use Rattle.vec_sql.specs.inner.WellFormedGivens.{is_formed};
+ghost use Rattle.vec_sql.specs.GivenStatements.{group_concerns};
+ghost use Rattle.vec_sql.specs.inner.PartMeanings.{AreTaken, IsMade, IsStatementMade, group_uses, limit_concerns, limit_uses, set_concerns, set_uses, term_concerns, term_uses};
+ghost use Rattle.vec_sql.specs.StatementReading.{EachOption, MeansDelete, MeansInsert, MeansSelect, MeansUpdate, MeansValue};
 
 use crate::flaw::Flaw;
 use crate::given::{Given, GivenAssign, GivenSelect, GivenStatement, GivenTerm, Group};
@@ -51,16 +51,16 @@ fn limit_of(alloc: Global, limit: &Option<Given>, params: &[Value]) -> Result<Op
 /// The SELECT that is given.
 #[tactic(auto, using(crate::proofs::Making::flaw_first, crate::proofs::Making::flaw_second, crate::proofs::Making::fine_both, crate::proofs::Making::taken_first, crate::proofs::Making::taken_second))]
 fn select_of(alloc: Global, given: &GivenSelect, params: &[Value]) -> Result<Select, Flaw>
-    ensures { IsMade (term_concerns given.now.wanted ++ limit_concerns given.now.limit) (AreTaken params.now (term_uses given.now.wanted ++ limit_uses given.now.limit)) (MeansSelect params.now given.now) result }
+    ensures { IsMade (term_concerns given.now.where_terms ++ limit_concerns given.now.limit) (AreTaken params.now (term_uses given.now.where_terms ++ limit_uses given.now.limit)) (MeansSelect params.now given.now) result }
 {
-    let wanted = terms_of(alloc, given.wanted.as_slice(), params)?;
+    let where_terms = terms_of(alloc, given.where_terms.as_slice(), params)?;
     let limit = limit_of(alloc, &given.limit, params)?;
     let items = items_of(alloc, &given.items)?;
     let table = given.table.copy(alloc)?;
     Ok(Select {
         table,
         items,
-        wanted,
+        where_terms,
         order: given.order,
         limit,
     })
@@ -98,12 +98,12 @@ fn update_of(
     ensures { IsMade (set_concerns assigns.now ++ term_concerns terms.now) (AreTaken params.now (set_uses assigns.now ++ term_uses terms.now)) (MeansUpdate params.now name.now assigns.now terms.now) result }
 {
     let sets = sets_of(alloc, assigns, params)?;
-    let wanted = terms_of(alloc, terms, params)?;
+    let where_terms = terms_of(alloc, terms, params)?;
     let table = name.copy(alloc)?;
     Ok(Update {
         table,
         sets,
-        wanted,
+        where_terms,
     })
 }
 
@@ -116,9 +116,9 @@ fn delete_of(
 ) -> Result<Delete, Flaw>
     ensures { IsMade (term_concerns terms.now) (AreTaken params.now (term_uses terms.now)) (MeansDelete params.now name.now terms.now) result }
 {
-    let wanted = terms_of(alloc, terms, params)?;
+    let where_terms = terms_of(alloc, terms, params)?;
     let table = name.copy(alloc)?;
-    Ok(Delete { table, wanted })
+    Ok(Delete { table, where_terms })
 }
 
 /// The CREATE that is given.

@@ -1,10 +1,10 @@
 ghost use Rattle.std.specs.Prelude.{◌≡◌, ◌≤◌, ◌++◌, true, length, IfOk, MatchBool, MatchOption};
 ghost use Rattle.std.specs.List.{flat_map};
-ghost use Rattle.vec_sql.specs.Formed.{is_formed};
-ghost use Rattle.vec_sql.specs.Givens.{bits, int8, uses, uses_of};
-ghost use Rattle.vec_sql.specs.Made.{group_uses, limit_uses, ordered_uses, set_uses, term_uses, test_uses};
-ghost use Rattle.vec_sql.specs.Noted.{NotesMore, fault_of, lesser, noted};
-ghost use Rattle.vec_sql.specs.Reads.{IsParameterFault, ParametersFit, Takes, parameter};
+ghost use Rattle.vec_sql.specs.inner.WellFormedGivens.{is_formed};
+ghost use Rattle.vec_sql.specs.GivenStatements.{bits, int8, uses, uses_of};
+ghost use Rattle.vec_sql.specs.inner.PartMeanings.{group_uses, limit_uses, ordered_uses, set_uses, term_uses, test_uses};
+ghost use Rattle.vec_sql.specs.inner.ParameterNotes.{NotesMore, fault_of, lesser, noted};
+ghost use Rattle.vec_sql.specs.StatementReading.{IsParameterFault, ParametersFit, Takes, parameter};
 
 use crate::given::{Given, GivenAssign, GivenSelect, GivenStatement, GivenTerm, GivenTest, Group};
 use crate::vector::{int8_of, parameter};
@@ -216,9 +216,9 @@ fn note_select(
     select: &GivenSelect,
     params: &[Value],
 ) -> Result<Notes, Memory>
-    ensures { IfOk result (λ new. NotesMore params.now (term_uses select.now.wanted ++ limit_uses select.now.limit) notes new) }
+    ensures { IfOk result (λ new. NotesMore params.now (term_uses select.now.where_terms ++ limit_uses select.now.limit) notes new) }
 {
-    let noted = note_terms(alloc, notes, select.wanted.as_slice(), params)?;
+    let noted = note_terms(alloc, notes, select.where_terms.as_slice(), params)?;
     note_limit(alloc, noted, &select.limit, params)
 }
 

@@ -1,6 +1,6 @@
 ghost use Rattle.std.specs.Prelude.{◌≡◌, ℕ, ◌++◌, List as Seq, codes, string_bytes, OnOk};
 ghost use Rattle.std.specs.List.{AllByRecursion};
-ghost use Rattle.vec_sql.specs.Canonical.{behind, separated, listed};
+ghost use Rattle.vec_sql.specs.CanonicalStatements.{behind, separated, listed};
 
 use std::alloc::AllocError;
 use vec_base::List;

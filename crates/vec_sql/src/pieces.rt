@@ -1,8 +1,8 @@
 ghost use Rattle.std.specs.Prelude.{◌≡◌, ◌++◌, codes, string_bytes, OnOk};
 ghost use Rattle.vec_literal.specs.ValueTexts.{value_text};
-ghost use Rattle.vec_sql.specs.Canonical.{group_text, op_text, test_text};
+ghost use Rattle.vec_sql.specs.CanonicalStatements.{group_text, op_text, test_text};
 ghost use Rattle.vec_literal.specs.Held.{IsHeld};
-ghost use Rattle.vec_sql.specs.Held.{AreHeld, IsHeldTest};
+ghost use Rattle.vec_sql.specs.inner.HeldStatements.{AreHeld, IsHeldTest};
 
 use crate::piece::{Piece, write_listed};
 use row_model::{Assign, Constraint, Test};
@@ -11,7 +11,7 @@ use vec_base::{List, Op, Txt, Value};
 use vec_literal::write_value;
 
 impl Piece for Txt {
-    ghost use Rattle.vec_sql.specs.Canonical.{name_text};
+    ghost use Rattle.vec_sql.specs.CanonicalStatements.{name_text};
     ghost use Rattle.std.specs.Prelude.{⊤};
 
     ghost text_of = { name_text };
@@ -37,8 +37,8 @@ impl Piece for Value {
 }
 
 impl Piece for List<Value> {
-    ghost use Rattle.vec_sql.specs.Canonical.{group_text};
-    ghost use Rattle.vec_sql.specs.Held.{AreHeld};
+    ghost use Rattle.vec_sql.specs.CanonicalStatements.{group_text};
+    ghost use Rattle.vec_sql.specs.inner.HeldStatements.{AreHeld};
 
     ghost text_of = { group_text };
 
@@ -50,8 +50,8 @@ impl Piece for List<Value> {
 }
 
 impl Piece for Assign {
-    ghost use Rattle.vec_sql.specs.Canonical.{assign_text};
-    ghost use Rattle.vec_sql.specs.Held.{IsHeldAssign};
+    ghost use Rattle.vec_sql.specs.CanonicalStatements.{assign_text};
+    ghost use Rattle.vec_sql.specs.inner.HeldStatements.{IsHeldAssign};
 
     ghost text_of = { assign_text };
 
@@ -65,8 +65,8 @@ impl Piece for Assign {
 }
 
 impl Piece for Constraint {
-    ghost use Rattle.vec_sql.specs.Canonical.{term_text};
-    ghost use Rattle.vec_sql.specs.Held.{IsHeldTerm};
+    ghost use Rattle.vec_sql.specs.CanonicalStatements.{term_text};
+    ghost use Rattle.vec_sql.specs.inner.HeldStatements.{IsHeldTerm};
 
     ghost text_of = { term_text };
 

@@ -3,13 +3,13 @@ ghost use Rattle.vec_base.specs.declared.refusal.Refusal.TheVariants.{WantOfMemo
 ghost use Rattle.grammar.specs.Grammar.{Spells};
 ghost use Rattle.grammar.specs.Parameters.{numbered_tokens};
 ghost use Rattle.vec_sql.specs.declared.given.GivenStatement.{GivenStatement as Spelled};
-ghost use Rattle.vec_sql.specs.Formed.{is_formed};
+ghost use Rattle.vec_sql.specs.inner.WellFormedGivens.{is_formed};
 ghost use Rattle.row_model.specs.WellFormed.{IsWellFormed};
 ghost use Rattle.row_model.specs.declared.statement.Statement.{Statement as Meant};
-ghost use Rattle.vec_sql.specs.Givens.{item_count, items_in, terms_in};
-ghost use Rattle.vec_sql.specs.Made.{FailsGrammar, answered, later, unless_later};
-ghost use Rattle.vec_sql.specs.Reads.{IsRefusal, SpellsStatement, count_fault};
-ghost use Rattle.vec_sql.specs.Statements.{statement};
+ghost use Rattle.vec_sql.specs.GivenStatements.{item_count, items_in, terms_in};
+ghost use Rattle.vec_sql.specs.inner.PartMeanings.{FailsGrammar, answered, later, unless_later};
+ghost use Rattle.vec_sql.specs.StatementReading.{IsRefusal, SpellsStatement, count_fault};
+ghost use Rattle.vec_sql.specs.StatementGrammar.{statement};
 
 use crate::body::statement;
 use crate::flaw::Flaw;
@@ -154,8 +154,8 @@ fn terms_in(given: &GivenStatement) -> usize
     match given {
         GivenStatement::Update(_, _, terms) => terms.len(),
         GivenStatement::Delete(_, terms) => terms.len(),
-        GivenStatement::Select(select) => select.wanted.len(),
-        GivenStatement::Explain(select) => select.wanted.len(),
+        GivenStatement::Select(select) => select.where_terms.len(),
+        GivenStatement::Explain(select) => select.where_terms.len(),
         _ => 0,
     }
 }

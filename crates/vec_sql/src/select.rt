@@ -1,9 +1,9 @@
 ghost use Rattle.std.specs.Prelude.{◌≡◌, true, IfOk};
-ghost use Rattle.grammar.specs.Gives.{rest_of, Gives};
-ghost use Rattle.grammar.specs.Reading.{read};
-ghost use Rattle.vec_sql.specs.Statements.{by_distance, by_rowid, items_part, limit, order};
-ghost use Rattle.vec_sql.specs.Factored.{factored_select, maybe_limit, maybe_order};
-ghost use Rattle.vec_sql.specs.Formed.{are_formed_items, is_formed_limit, is_formed_select, is_formed_value};
+ghost use Rattle.grammar.specs.inner.ReaderResults.{rest_of, Gives};
+ghost use Rattle.grammar.specs.inner.Reading.{read};
+ghost use Rattle.vec_sql.specs.StatementGrammar.{by_distance, by_rowid, items_part, limit, order};
+ghost use Rattle.vec_sql.specs.inner.FactoredStatements.{factored_select, maybe_limit, maybe_order};
+ghost use Rattle.vec_sql.specs.inner.WellFormedGivens.{are_formed_items, is_formed_limit, is_formed_select, is_formed_value};
 
 use crate::given::{Given, GivenSelect};
 use crate::list::names;
@@ -14,7 +14,7 @@ use row_model::{Items, Order};
 use std::alloc::Global;
 
 /// Reads `*` or names.
-#[tactic(auto, unfolding(crate::specs::Statements::items_part, crate::specs::Factored::names_list))]
+#[tactic(auto, unfolding(crate::specs::StatementGrammar::items_part, crate::specs::inner::FactoredStatements::names_list))]
 fn items(alloc: Global, reader: &mut Reader<'_>) -> Result<Items, Stop>
     ensures reads { Gives (λ x. x) result (read items_part (rest_of reader.old)) (rest_of reader.new) }
     ensures formed { IfOk result (λ items. are_formed_items items ≡ true) }
@@ -29,7 +29,7 @@ fn items(alloc: Global, reader: &mut Reader<'_>) -> Result<Items, Stop>
 }
 
 /// Reads the order by distance.
-#[tactic(auto, unfolding(crate::specs::Statements::by_distance))]
+#[tactic(auto, unfolding(crate::specs::StatementGrammar::by_distance))]
 fn by_distance(reader: &mut Reader<'_>) -> Result<Order, Stop>
     ensures { Gives (λ x. x) result (read by_distance (rest_of reader.old)) (rest_of reader.new) }
 {
@@ -46,7 +46,7 @@ fn by_distance(reader: &mut Reader<'_>) -> Result<Order, Stop>
 }
 
 /// Reads the order by rowid.
-#[tactic(auto, unfolding(crate::specs::Statements::by_rowid))]
+#[tactic(auto, unfolding(crate::specs::StatementGrammar::by_rowid))]
 fn by_rowid(reader: &mut Reader<'_>) -> Result<Order, Stop>
     ensures { Gives (λ x. x) result (read by_rowid (rest_of reader.old)) (rest_of reader.new) }
 {
@@ -56,7 +56,7 @@ fn by_rowid(reader: &mut Reader<'_>) -> Result<Order, Stop>
 }
 
 /// Reads ORDER BY.
-#[tactic(auto, unfolding(crate::specs::Statements::order, crate::specs::Statements::by_distance))]
+#[tactic(auto, unfolding(crate::specs::StatementGrammar::order, crate::specs::StatementGrammar::by_distance))]
 fn order(reader: &mut Reader<'_>) -> Result<Order, Stop>
     ensures { Gives (λ x. x) result (read order (rest_of reader.old)) (rest_of reader.new) }
 {
@@ -70,7 +70,7 @@ fn order(reader: &mut Reader<'_>) -> Result<Order, Stop>
 }
 
 /// Reads ORDER BY, where it is at hand.
-#[tactic(auto, unfolding(crate::specs::Factored::maybe_order, crate::specs::Statements::order))]
+#[tactic(auto, unfolding(crate::specs::inner::FactoredStatements::maybe_order, crate::specs::StatementGrammar::order))]
 fn maybe_order(reader: &mut Reader<'_>) -> Result<Order, Stop>
     ensures { Gives (λ x. x) result (read maybe_order (rest_of reader.old)) (rest_of reader.new) }
 {
@@ -83,7 +83,7 @@ fn maybe_order(reader: &mut Reader<'_>) -> Result<Order, Stop>
 }
 
 /// Reads LIMIT and its value.
-#[tactic(auto, unfolding(crate::specs::Statements::limit))]
+#[tactic(auto, unfolding(crate::specs::StatementGrammar::limit))]
 fn limit(reader: &mut Reader<'_>) -> Result<Given, Stop>
     ensures reads { Gives (λ x. x) result (read limit (rest_of reader.old)) (rest_of reader.new) }
     ensures formed { IfOk result (λ given. is_formed_value given ≡ true) }
@@ -93,7 +93,7 @@ fn limit(reader: &mut Reader<'_>) -> Result<Given, Stop>
 }
 
 /// Reads LIMIT and its value, where it is at hand.
-#[tactic(auto, unfolding(crate::specs::Factored::maybe_limit, crate::specs::Statements::limit))]
+#[tactic(auto, unfolding(crate::specs::inner::FactoredStatements::maybe_limit, crate::specs::StatementGrammar::limit))]
 fn maybe_limit(reader: &mut Reader<'_>) -> Result<Option<Given>, Stop>
     ensures reads { Gives (λ x. x) result (read maybe_limit (rest_of reader.old)) (rest_of reader.new) }
     ensures formed { IfOk result (λ given. is_formed_limit given ≡ true) }
@@ -107,7 +107,7 @@ fn maybe_limit(reader: &mut Reader<'_>) -> Result<Option<Given>, Stop>
 }
 
 /// Reads a SELECT.
-#[tactic(auto, unfolding(crate::specs::Factored::factored_select))]
+#[tactic(auto, unfolding(crate::specs::inner::FactoredStatements::factored_select))]
 pub(crate) fn select(alloc: Global, reader: &mut Reader<'_>) -> Result<GivenSelect, Stop>
     ensures reads { Gives (λ x. x) result (read factored_select (rest_of reader.old)) (rest_of reader.new) }
     ensures formed { IfOk result (λ select. is_formed_select select ≡ true) }
@@ -116,13 +116,13 @@ pub(crate) fn select(alloc: Global, reader: &mut Reader<'_>) -> Result<GivenSele
     let items = items(alloc, reader)?;
     reader.word(b"FROM")?;
     let table = reader.name()?;
-    let wanted = maybe_where(alloc, reader)?;
+    let where_terms = maybe_where(alloc, reader)?;
     let order = maybe_order(reader)?;
     let limit = maybe_limit(reader)?;
     Ok(GivenSelect {
         table,
         items,
-        wanted,
+        where_terms,
         order,
         limit,
     })

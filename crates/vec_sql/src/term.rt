@@ -1,10 +1,10 @@
 ghost use Rattle.std.specs.Prelude.{◌≡◌, ◌&&◌, true, IfOk};
 ghost use Rattle.std.specs.List.{list_all};
-ghost use Rattle.grammar.specs.Gives.{rest_of, Gives};
-ghost use Rattle.grammar.specs.Reading.{read};
-ghost use Rattle.vec_sql.specs.Statements.{comparison, match_of, member};
-ghost use Rattle.vec_sql.specs.Factored.{factored_term, factored_where, maybe_where, more_terms, terms_list, test};
-ghost use Rattle.vec_sql.specs.Formed.{is_formed_test, is_formed_term};
+ghost use Rattle.grammar.specs.inner.ReaderResults.{rest_of, Gives};
+ghost use Rattle.grammar.specs.inner.Reading.{read};
+ghost use Rattle.vec_sql.specs.StatementGrammar.{comparison, match_of, member};
+ghost use Rattle.vec_sql.specs.inner.FactoredStatements.{factored_term, factored_where, maybe_where, more_terms, terms_list, test};
+ghost use Rattle.vec_sql.specs.inner.WellFormedGivens.{is_formed_test, is_formed_term};
 
 use crate::given::{GivenTerm, GivenTest};
 use crate::list::values;
@@ -14,7 +14,7 @@ use std::alloc::Global;
 use vec_base::List;
 
 /// Reads an operator and a value.
-#[tactic(auto, unfolding(crate::specs::Statements::comparison))]
+#[tactic(auto, unfolding(crate::specs::StatementGrammar::comparison))]
 fn comparison(reader: &mut Reader<'_>) -> Result<GivenTest, Stop>
     ensures reads { Gives (λ x. x) result (read comparison (rest_of reader.old)) (rest_of reader.new) }
     ensures formed { IfOk result (λ test. is_formed_test test ≡ true) }
@@ -25,7 +25,7 @@ fn comparison(reader: &mut Reader<'_>) -> Result<GivenTest, Stop>
 }
 
 /// Reads IN and its members.
-#[tactic(auto, unfolding(crate::specs::Statements::member, crate::specs::Factored::values_list))]
+#[tactic(auto, unfolding(crate::specs::StatementGrammar::member, crate::specs::inner::FactoredStatements::values_list))]
 fn member(alloc: Global, reader: &mut Reader<'_>) -> Result<GivenTest, Stop>
     ensures reads { Gives (λ x. x) result (read member (rest_of reader.old)) (rest_of reader.new) }
     ensures formed { IfOk result (λ test. is_formed_test test ≡ true) }
@@ -38,7 +38,7 @@ fn member(alloc: Global, reader: &mut Reader<'_>) -> Result<GivenTest, Stop>
 }
 
 /// Reads MATCH and its vector.
-#[tactic(auto, unfolding(crate::specs::Statements::match_of))]
+#[tactic(auto, unfolding(crate::specs::StatementGrammar::match_of))]
 fn match_of(reader: &mut Reader<'_>) -> Result<GivenTest, Stop>
     ensures reads { Gives (λ x. x) result (read match_of (rest_of reader.old)) (rest_of reader.new) }
     ensures formed { IfOk result (λ test. is_formed_test test ≡ true) }
@@ -49,7 +49,7 @@ fn match_of(reader: &mut Reader<'_>) -> Result<GivenTest, Stop>
 }
 
 /// Reads what is asked of a column.
-#[tactic(auto, unfolding(crate::specs::Factored::test, crate::specs::Statements::member, crate::specs::Statements::match_of))]
+#[tactic(auto, unfolding(crate::specs::inner::FactoredStatements::test, crate::specs::StatementGrammar::member, crate::specs::StatementGrammar::match_of))]
 fn test(alloc: Global, reader: &mut Reader<'_>) -> Result<GivenTest, Stop>
     ensures reads { Gives (λ x. x) result (read test (rest_of reader.old)) (rest_of reader.new) }
     ensures formed { IfOk result (λ test. is_formed_test test ≡ true) }
@@ -64,7 +64,7 @@ fn test(alloc: Global, reader: &mut Reader<'_>) -> Result<GivenTest, Stop>
 }
 
 /// Reads a term.
-#[tactic(auto, unfolding(crate::specs::Factored::factored_term))]
+#[tactic(auto, unfolding(crate::specs::inner::FactoredStatements::factored_term))]
 pub(crate) fn term(alloc: Global, reader: &mut Reader<'_>) -> Result<GivenTerm, Stop>
     ensures reads { Gives (λ x. x) result (read factored_term (rest_of reader.old)) (rest_of reader.new) }
     ensures formed { IfOk result (λ term. is_formed_term term ≡ true) }
@@ -75,7 +75,7 @@ pub(crate) fn term(alloc: Global, reader: &mut Reader<'_>) -> Result<GivenTerm, 
 }
 
 /// Reads AND and a term.
-#[tactic(auto, unfolding(crate::specs::Factored::more_terms))]
+#[tactic(auto, unfolding(crate::specs::inner::FactoredStatements::more_terms))]
 pub(crate) fn more_terms(alloc: Global, reader: &mut Reader<'_>) -> Result<GivenTerm, Stop>
     ensures reads { Gives (λ x. x) result (read more_terms (rest_of reader.old)) (rest_of reader.new) }
     ensures formed { IfOk result (λ term. is_formed_term term ≡ true) }
@@ -100,7 +100,7 @@ pub(crate) fn terms(alloc: Global, reader: &mut Reader<'_>) -> Result<List<Given
 }
 
 /// Reads WHERE and its terms.
-#[tactic(auto, unfolding(crate::specs::Factored::factored_where))]
+#[tactic(auto, unfolding(crate::specs::inner::FactoredStatements::factored_where))]
 fn where_part(alloc: Global, reader: &mut Reader<'_>) -> Result<List<GivenTerm>, Stop>
     ensures reads { Gives (λ x. x) result (read factored_where (rest_of reader.old)) (rest_of reader.new) }
     ensures formed { IfOk result (λ terms. list_all is_formed_term terms ≡ true) }
@@ -110,7 +110,7 @@ fn where_part(alloc: Global, reader: &mut Reader<'_>) -> Result<List<GivenTerm>,
 }
 
 /// Reads WHERE and its terms, or no terms where there is none.
-#[tactic(auto, unfolding(crate::specs::Factored::maybe_where, crate::specs::Factored::factored_where))]
+#[tactic(auto, unfolding(crate::specs::inner::FactoredStatements::maybe_where, crate::specs::inner::FactoredStatements::factored_where))]
 pub(crate) fn maybe_where(alloc: Global, reader: &mut Reader<'_>) -> Result<List<GivenTerm>, Stop>
     ensures reads { Gives (λ x. x) result (read maybe_where (rest_of reader.old)) (rest_of reader.new) }
     ensures formed { IfOk result (λ terms. list_all is_formed_term terms ≡ true) }

@@ -1,9 +1,9 @@
 ghost use Rattle.std.specs.Prelude.{◌≡◌, Some, None, if◌then◌else◌, IfOk, true};
-ghost use Rattle.grammar.specs.Gives.{rest_of, Gives};
-ghost use Rattle.grammar.specs.Reading.{read};
-ghost use Rattle.vec_sql.specs.Formed.{is_formed_value};
-ghost use Rattle.vec_sql.specs.Statements.{may_say, op, value, vec_bit, vec_int8};
-ghost use Rattle.vec_sql.specs.Factored.{bits_operand, int8_operand, operand, order_op, word_value};
+ghost use Rattle.grammar.specs.inner.ReaderResults.{rest_of, Gives};
+ghost use Rattle.grammar.specs.inner.Reading.{read};
+ghost use Rattle.vec_sql.specs.inner.WellFormedGivens.{is_formed_value};
+ghost use Rattle.vec_sql.specs.StatementGrammar.{may_say, op, value, vec_bit, vec_int8};
+ghost use Rattle.vec_sql.specs.inner.FactoredStatements.{bits_operand, int8_operand, operand, order_op, word_value};
 
 use crate::given::Given;
 use grammar::{Reader, Stop};
@@ -22,7 +22,7 @@ pub(crate) fn may_say(reader: &mut Reader<'_>, word: &[u8]) -> Result<bool, Stop
 }
 
 /// Reads what VEC_INT8 is given.
-#[tactic(auto, unfolding(crate::specs::Factored::int8_operand))]
+#[tactic(auto, unfolding(crate::specs::inner::FactoredStatements::int8_operand))]
 fn int8_operand(reader: &mut Reader<'_>) -> Result<Given, Stop>
     ensures reads { Gives (λ x. x) result (read int8_operand (rest_of reader.old)) (rest_of reader.new) }
     ensures formed { IfOk result (λ given. is_formed_value given ≡ true) }
@@ -40,7 +40,7 @@ fn int8_operand(reader: &mut Reader<'_>) -> Result<Given, Stop>
 }
 
 /// Reads an int8 vector.
-#[tactic(auto, unfolding(crate::specs::Statements::vec_int8, crate::specs::Factored::int8_operand))]
+#[tactic(auto, unfolding(crate::specs::StatementGrammar::vec_int8, crate::specs::inner::FactoredStatements::int8_operand))]
 fn vec_int8(reader: &mut Reader<'_>) -> Result<Given, Stop>
     ensures reads { Gives (λ x. x) result (read vec_int8 (rest_of reader.old)) (rest_of reader.new) }
     ensures formed { IfOk result (λ given. is_formed_value given ≡ true) }
@@ -53,7 +53,7 @@ fn vec_int8(reader: &mut Reader<'_>) -> Result<Given, Stop>
 }
 
 /// Reads what VEC_BIT is given.
-#[tactic(auto, unfolding(crate::specs::Factored::bits_operand))]
+#[tactic(auto, unfolding(crate::specs::inner::FactoredStatements::bits_operand))]
 fn bits_operand(reader: &mut Reader<'_>) -> Result<Given, Stop>
     ensures reads { Gives (λ x. x) result (read bits_operand (rest_of reader.old)) (rest_of reader.new) }
     ensures formed { IfOk result (λ given. is_formed_value given ≡ true) }
@@ -68,7 +68,7 @@ fn bits_operand(reader: &mut Reader<'_>) -> Result<Given, Stop>
 }
 
 /// Reads a bit vector.
-#[tactic(auto, unfolding(crate::specs::Statements::vec_bit, crate::specs::Factored::bits_operand))]
+#[tactic(auto, unfolding(crate::specs::StatementGrammar::vec_bit, crate::specs::inner::FactoredStatements::bits_operand))]
 fn vec_bit(reader: &mut Reader<'_>) -> Result<Given, Stop>
     ensures reads { Gives (λ x. x) result (read vec_bit (rest_of reader.old)) (rest_of reader.new) }
     ensures formed { IfOk result (λ given. is_formed_value given ≡ true) }
@@ -81,7 +81,7 @@ fn vec_bit(reader: &mut Reader<'_>) -> Result<Given, Stop>
 }
 
 /// Reads a parameter or a vector.
-#[tactic(auto, unfolding(crate::specs::Factored::operand, crate::specs::Statements::vec_int8))]
+#[tactic(auto, unfolding(crate::specs::inner::FactoredStatements::operand, crate::specs::StatementGrammar::vec_int8))]
 fn operand(reader: &mut Reader<'_>) -> Result<Given, Stop>
     ensures reads { Gives (λ x. x) result (read operand (rest_of reader.old)) (rest_of reader.new) }
     ensures formed { IfOk result (λ given. is_formed_value given ≡ true) }
@@ -97,7 +97,7 @@ fn operand(reader: &mut Reader<'_>) -> Result<Given, Stop>
 }
 
 /// Reads a value that is no literal.
-#[tactic(auto, unfolding(crate::specs::Factored::word_value))]
+#[tactic(auto, unfolding(crate::specs::inner::FactoredStatements::word_value))]
 fn word_value(reader: &mut Reader<'_>) -> Result<Given, Stop>
     ensures reads { Gives (λ x. x) result (read word_value (rest_of reader.old)) (rest_of reader.new) }
     ensures formed { IfOk result (λ given. is_formed_value given ≡ true) }
@@ -117,7 +117,7 @@ fn word_value(reader: &mut Reader<'_>) -> Result<Given, Stop>
 }
 
 /// Reads a value.
-#[tactic(auto, unfolding(crate::specs::Statements::value, crate::specs::Factored::word_value, crate::specs::Factored::operand))]
+#[tactic(auto, unfolding(crate::specs::StatementGrammar::value, crate::specs::inner::FactoredStatements::word_value, crate::specs::inner::FactoredStatements::operand))]
 pub(crate) fn value(reader: &mut Reader<'_>) -> Result<Given, Stop>
     ensures reads { Gives (λ x. x) result (read value (rest_of reader.old)) (rest_of reader.new) }
     ensures formed { IfOk result (λ given. is_formed_value given ≡ true) }
@@ -137,7 +137,7 @@ pub(crate) fn value(reader: &mut Reader<'_>) -> Result<Given, Stop>
 }
 
 /// Reads an operator that asks for an order.
-#[tactic(auto, unfolding(crate::specs::Factored::order_op))]
+#[tactic(auto, unfolding(crate::specs::inner::FactoredStatements::order_op))]
 fn order_op(reader: &mut Reader<'_>) -> Result<Op, Stop>
     ensures { Gives (λ x. x) result (read order_op (rest_of reader.old)) (rest_of reader.new) }
 {
@@ -157,7 +157,7 @@ fn order_op(reader: &mut Reader<'_>) -> Result<Op, Stop>
 }
 
 /// Reads an operator.
-#[tactic(auto, unfolding(crate::specs::Statements::op, crate::specs::Factored::order_op))]
+#[tactic(auto, unfolding(crate::specs::StatementGrammar::op, crate::specs::inner::FactoredStatements::order_op))]
 pub(crate) fn op(reader: &mut Reader<'_>) -> Result<Op, Stop>
     ensures { Gives (λ x. x) result (read op (rest_of reader.old)) (rest_of reader.new) }
 {

@@ -1,8 +1,8 @@
 ghost use Rattle.std.specs.Prelude.{◌≡◌, ℕ, List, IfOk, MatchOption};
 ghost use Rattle.vec_base.specs.declared.value.Value.TheVariants as values;
 ghost use Rattle.vec_literal.specs.Int8.{SpellsInt8};
-ghost use Rattle.vec_sql.specs.Givens.{int8, bits};
-ghost use Rattle.vec_sql.specs.Reads.{Takes, GivesInt8, GivesBits, parameter};
+ghost use Rattle.vec_sql.specs.GivenStatements.{int8, bits};
+ghost use Rattle.vec_sql.specs.StatementReading.{Takes, GivesInt8, GivesBits, parameter};
 
 use std::alloc::Global;
 use vec_base::{Bytes, Memory, Value};

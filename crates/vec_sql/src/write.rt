@@ -1,10 +1,10 @@
 ghost use Rattle.std.specs.Prelude.{◌≡◌, ◌≤◌, [], ◌++◌, codes, length, string_bytes, IfOk, OnOk};
 ghost use Rattle.std.specs.List.{AllByRecursion};
-ghost use Rattle.row_model.specs.Canonical.{canonical_columns};
+ghost use Rattle.row_model.specs.CanonicalColumns.{canonical_columns};
 ghost use Rattle.row_model.specs.WellFormed.{IsWellFormed};
-ghost use Rattle.vec_sql.specs.Canonical.{begin_text, where_text, items_text, order_text, limit_text, select_text, insert_text, update_text, delete_text, statement_text};
-ghost use Rattle.vec_sql.specs.Held.{AreHeld, IsHeldAssign, IsHeldTerm, IsHeldLimit, IsHeldSelect, IsHeldStatement};
-ghost use Rattle.vec_sql.specs.Reads.{SpellsStatement};
+ghost use Rattle.vec_sql.specs.CanonicalStatements.{begin_text, where_text, items_text, order_text, limit_text, select_text, insert_text, update_text, delete_text, statement_text};
+ghost use Rattle.vec_sql.specs.inner.HeldStatements.{AreHeld, IsHeldAssign, IsHeldTerm, IsHeldLimit, IsHeldSelect, IsHeldStatement};
+ghost use Rattle.vec_sql.specs.StatementReading.{SpellsStatement};
 
 use crate::piece::{Piece, write_listed, write_separated};
 use row_model::{Constraint, Delete, Insert, Items, Order, Schema, Select, Statement, Update};
@@ -100,23 +100,23 @@ fn write_insert(text: &mut String, insert: &Insert) -> Result<(), AllocError>
 /// Writes an UPDATE.
 fn write_update(text: &mut String, update: &Update) -> Result<(), AllocError>
     ensures text { OnOk result (string_bytes text.new ≡ string_bytes text.old ++ update_text update.now) }
-    ensures held { OnOk result (AllByRecursion IsHeldAssign update.now.sets × AllByRecursion IsHeldTerm update.now.wanted) }
+    ensures held { OnOk result (AllByRecursion IsHeldAssign update.now.sets × AllByRecursion IsHeldTerm update.now.where_terms) }
 {
     text.push_str("UPDATE ")?;
     update.table.write(text)?;
     text.push_str(" SET ")?;
     write_listed(text, &update.sets)?;
-    write_where(text, &update.wanted)
+    write_where(text, &update.where_terms)
 }
 
 /// Writes a DELETE.
 fn write_delete(text: &mut String, delete: &Delete) -> Result<(), AllocError>
     ensures text { OnOk result (string_bytes text.new ≡ string_bytes text.old ++ delete_text delete.now) }
-    ensures held { OnOk result (AllByRecursion IsHeldTerm delete.now.wanted) }
+    ensures held { OnOk result (AllByRecursion IsHeldTerm delete.now.where_terms) }
 {
     text.push_str("DELETE FROM ")?;
     delete.table.write(text)?;
-    write_where(text, &delete.wanted)
+    write_where(text, &delete.where_terms)
 }
 
 /// Writes an EXPLAIN.
@@ -137,7 +137,7 @@ fn write_select(text: &mut String, select: &Select) -> Result<(), AllocError>
     write_items(text, &select.items)?;
     text.push_str(" FROM ")?;
     select.table.write(text)?;
-    write_where(text, &select.wanted)?;
+    write_where(text, &select.where_terms)?;
     text.push_str(order_words(select.order))?;
     write_limit(text, &select.limit)
 }

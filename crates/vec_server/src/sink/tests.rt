@@ -1,6 +1,6 @@
 use super::StdSink;
 use std::io::{self, Write};
-use vec_base::{Sink, Wrote};
+use vec_base::{Sink, WriteOutcome};
 
 /// Takes at most two bytes at a call. The second write fails, the third takes nothing, and the
 /// flush after the fourth fails.
@@ -31,11 +31,11 @@ impl Write for ShortWriter {
 fn counts_what_fails(rt: HostRuntime) {
     let mut sink = StdSink::new(ShortWriter { calls: 0 });
     let wanted = [
-        (Wrote::Took(2), 0),
-        (Wrote::Failed, 1),
-        (Wrote::Failed, 2),
-        (Wrote::Failed, 3),
-        (Wrote::Took(2), 3),
+        (WriteOutcome::Took(2), 0),
+        (WriteOutcome::Failed, 1),
+        (WriteOutcome::Failed, 2),
+        (WriteOutcome::Failed, 3),
+        (WriteOutcome::Took(2), 3),
     ];
     for (wrote, faults) in wanted {
         assert_eq!(rt; sink.write(b"abc"), wrote, "before {faults} faults");

@@ -3,7 +3,7 @@ ghost use Rattle.std.specs.Prelude.{◌≤◌, ◌^◌};
 use super::{MOST, StdSource};
 use std::io::{self, Read};
 use std::process::Abort;
-use vec_base::{Got, Source};
+use vec_base::{ReadOutcome, Source};
 
 /// Gives at most two bytes at a call, and fails at the second call.
 #[derive(Drop)]
@@ -27,7 +27,7 @@ impl Read for ShortReader {
 
 /// Reads "abc" by a source that has given so many bytes: each answer, the first bytes of the room
 /// and the faults by then.
-fn reads_abc(rt: &impl Abort, given: u64, wanted: &[(Got, &[u8], u64)])
+fn reads_abc(rt: &impl Abort, given: u64, wanted: &[(ReadOutcome, &[u8], u64)])
     requires { given ≤ 2 ^ 40 }
 {
     let mut source = StdSource {
@@ -49,12 +49,12 @@ fn reads_abc(rt: &impl Abort, given: u64, wanted: &[(Got, &[u8], u64)])
 #[test]
 fn counts_what_fails(rt: HostRuntime) {
     let short = [
-        (Got::Took(2), &b"ab"[..], 0),
-        (Got::Failed, &[], 1),
-        (Got::Took(1), b"c", 1),
-        (Got::End, &[], 1),
+        (ReadOutcome::Took(2), &b"ab"[..], 0),
+        (ReadOutcome::Failed, &[], 1),
+        (ReadOutcome::Took(1), b"c", 1),
+        (ReadOutcome::End, &[], 1),
     ];
     reads_abc(&rt, 0, &short);
-    let full = [(Got::Took(1), &b"a\0"[..], 0), (Got::Failed, &[], 1)];
+    let full = [(ReadOutcome::Took(1), &b"a\0"[..], 0), (ReadOutcome::Failed, &[], 1)];
     reads_abc(&rt, MOST - 1, &full);
 }

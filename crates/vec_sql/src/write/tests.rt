@@ -73,7 +73,7 @@ fn update(alloc: Global) -> Result<Statement, Memory> {
     Ok(Statement::Update(Update {
         table: Txt::from_text(alloc, "v")?,
         sets: list(alloc, set, None)?,
-        wanted: list(
+        where_terms: list(
             alloc,
             member,
             Some(compared(alloc, "p", Op::Ne, text(alloc, "x")?)?),
@@ -89,7 +89,7 @@ fn explain(alloc: Global) -> Result<Statement, Memory> {
     Ok(Statement::Explain(Select {
         table: Txt::from_text(alloc, "v")?,
         items: Items::All,
-        wanted: list(
+        where_terms: list(
             alloc,
             near,
             Some(compared(alloc, "p", Op::Le, Value::Int(3))?),

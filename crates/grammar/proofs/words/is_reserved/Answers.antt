@@ -1,6 +1,6 @@
 use Rattle.std.proofs.Common.{◌∙◌, refl, ap, List, ℕ, Bor}
 use Rattle.std.specs.List.{list_any}
-use Rattle.grammar.specs.Gives.{is_in_any_case}
+use Rattle.grammar.specs.inner.ReaderResults.{is_in_any_case}
 use Rattle.vec_base.specs.Words.{is_reserved}
 use Rattle.grammar.proofs.words.is_reserved.Goals as goal
 

@@ -1,6 +1,6 @@
 use Rattle.std.proofs.Common.{◌≡◌, drop, map}
-use Rattle.vec0_columns.specs.Columns.{first_or, sizes_of}
-use Rattle.vec0_columns.specs.Narrowed.{narrow_arg}
+use Rattle.vec0_columns.specs.ColumnGrammar.{first_or, sizes_of}
+use Rattle.vec0_columns.specs.inner.NarrowedNumbers.{narrow_arg}
 use Rattle.vec0_columns.proofs.meaning.chunk_size.Given as goal
 
 abbrev pub invariant-loop-arg : goal.invariant-loop-arg

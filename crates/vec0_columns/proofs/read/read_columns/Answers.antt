@@ -2,11 +2,11 @@ use Rattle.std.specs.List.{list_all}
 use Rattle.std.proofs.Common.{◌≡◌, true, List, sym, ◌∙◌, ap, subst}
 use Rattle.std.proofs.lemmas.Bool.{MatchBool-at_true, MatchBool-at_false}
 use Rattle.vec_literal.specs.Tokens.{Token, tokens}
-use Rattle.grammar.specs.Gives.{rest_of}
-use Rattle.grammar.specs.Reading.{read}
+use Rattle.grammar.specs.inner.ReaderResults.{rest_of}
+use Rattle.grammar.specs.inner.Reading.{read}
 use Rattle.vec0_columns.specs.declared.text.Arg.{Arg}
-use Rattle.vec0_columns.specs.Columns.{has_name, IsAnswer, answer_of}
-use Rattle.vec0_columns.specs.Factored.{factored_columns}
+use Rattle.vec0_columns.specs.ColumnGrammar.{has_name, IsAnswer, answer_of}
+use Rattle.vec0_columns.specs.inner.FactoredColumns.{factored_columns}
 use Rattle.vec0_columns.proofs.Answering.{failing, spelled, answers, declares, breaks, more_left, stopped}
 use Rattle.vec0_columns.proofs.read.read_columns.Goals as goal
 

@@ -4,11 +4,11 @@ use Rattle.std.specs.Prelude.{IfOk, IfErr}
 use Rattle.vec_base.specs.declared.refusal.Refusal.{Refusal}
 use Rattle.row_model.specs.declared.schema.Schema.{Schema}
 use Rattle.vec_literal.specs.Tokens.{Token, tokens}
-use Rattle.grammar.specs.Gives.{rest_of, first_of}
-use Rattle.grammar.specs.Reading.{read}
+use Rattle.grammar.specs.inner.ReaderResults.{rest_of, first_of}
+use Rattle.grammar.specs.inner.Reading.{read}
 use Rattle.vec0_columns.specs.declared.text.Arg.{Arg}
-use Rattle.vec0_columns.specs.Columns.{has_name, IsAnswer, answer_of, DeclaresAt, IsRefusalAt}
-use Rattle.vec0_columns.specs.Factored.{factored_columns}
+use Rattle.vec0_columns.specs.ColumnGrammar.{has_name, IsAnswer, answer_of, DeclaresAt, IsRefusalAt}
+use Rattle.vec0_columns.specs.inner.FactoredColumns.{factored_columns}
 use Rattle.vec0_columns.proofs.Answering.{failing_at, closed, unclosed, not_begun, stopped_inside, spelled_front, place_closed, answers_at, declares_at, breaks_at, never_at, placed_valid}
 use Rattle.vec0_columns.proofs.read.read_columns_at.Goals as goal
 

@@ -1,11 +1,11 @@
 use Rattle.std.proofs.Common.{List, [], ◌∷◌, ◌++◌, sym, ◌∙◌, ap, Err}
 use Rattle.std.proofs.lemmas.Result.{err_from_is_err_and}
-use Rattle.grammar.specs.Gives.{rest_of}
+use Rattle.grammar.specs.inner.ReaderResults.{rest_of}
 use Rattle.grammar.specs.Grammar.{many}
-use Rattle.grammar.specs.Reading.{read}
+use Rattle.grammar.specs.inner.Reading.{read}
 use Rattle.grammar.proofs.Loops.{with_front, takes_some, many_step, many_fails, many_ends, fails_as}
 use Rattle.vec0_columns.specs.declared.text.Arg.{Arg}
-use Rattle.vec0_columns.specs.Factored.{factored_arg, tail, factored_columns}
+use Rattle.vec0_columns.specs.inner.FactoredColumns.{factored_arg, tail, factored_columns}
 use Rattle.vec0_columns.proofs.ColumnLoop.{columns_first, columns_none, tail_some, tail_starts, one_named, more_named}
 use Rattle.vec0_columns.proofs.text.columns.Goals as goal
 

@@ -1,11 +1,11 @@
 use Rattle.std.specs.List.{list_all}
-use Rattle.vec0_columns.specs.Columns.{has_name}
+use Rattle.vec0_columns.specs.ColumnGrammar.{has_name}
 use Rattle.std.proofs.Common.{true, ◌≡◌, length}
-use Rattle.grammar.specs.Gives.{rest_of}
+use Rattle.grammar.specs.inner.ReaderResults.{rest_of}
 use Rattle.grammar.specs.Grammar.{many}
-use Rattle.grammar.specs.Reading.{read}
+use Rattle.grammar.specs.inner.Reading.{read}
 use Rattle.grammar.proofs.Loops.{with_front}
-use Rattle.vec0_columns.specs.Factored.{tail, factored_columns}
+use Rattle.vec0_columns.specs.inner.FactoredColumns.{tail, factored_columns}
 use Rattle.vec0_columns.proofs.text.columns.Given as goal
 
 abbrev pub invariant-loop-reader : goal.invariant-loop-reader

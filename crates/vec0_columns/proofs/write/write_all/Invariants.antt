@@ -1,7 +1,7 @@
 -- The text so far has the columns before the next one.
 use Rattle.std.proofs.Common.{◌≡◌, ◌++◌, take, codes, string_bytes}
 use Rattle.std.specs.List.{flat_map}
-use Rattle.row_model.specs.Canonical.{column_text}
+use Rattle.row_model.specs.CanonicalColumns.{column_text}
 use Rattle.vec0_columns.proofs.write.write_all.Given as goal
 
 abbrev pub invariant-loop-column : goal.invariant-loop-column

@@ -1,5 +1,5 @@
 use Rattle.std.proofs.Common.{◌≡◌, ◌++◌, drop, false}
-use Rattle.vec_literal.specs.Values.{undoubled}
+use Rattle.vec_literal.specs.LiteralValues.{undoubled}
 use Rattle.vec_literal.proofs.literal.undoubled.Given as goal
 
 abbrev pub invariant-loop-byte : goal.invariant-loop-byte

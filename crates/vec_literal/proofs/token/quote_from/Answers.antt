@@ -5,7 +5,7 @@ use Rattle.std.proofs.lemmas.Iterator.Consumers.{count_from_yields_List}
 use Rattle.std.proofs.lemmas.Iterator.Search.{YieldsList-from_take_while}
 use Rattle.std.proofs.lemmas.List.{take_rest}
 use Rattle.std.proofs.lemmas.List.Folds.{length-prefix_len}
-use Rattle.vec_literal.specs.Stretches.{is_plain}
+use Rattle.vec_literal.specs.inner.Stretches.{is_plain}
 use Rattle.vec_literal.proofs.token.quote_from.Goals as goal
 use borrow.Author.Tests.{tests}
 

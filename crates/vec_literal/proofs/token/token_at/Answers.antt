@@ -3,7 +3,7 @@ use Rattle.std.specs.Char.{is_ascii_digit}
 use Rattle.std.specs.List.{list_all}
 use Rattle.vec_literal.specs.declared.token.TokenSort.TheVariants as sorts
 use Rattle.vec_literal.specs.Tokens.{is_word_byte, is_mark_text}
-use Rattle.vec_literal.specs.Stretches.{EndsAt, EndsNowhere}
+use Rattle.vec_literal.specs.inner.Stretches.{EndsAt, EndsNowhere}
 use Rattle.vec_literal.proofs.Runs.{run_to}
 use Rattle.vec_literal.proofs.Sorts.{token_with, token_nowhere, blob_room, none_given}
 use Rattle.vec_literal.proofs.token.token_at.Goals as goal

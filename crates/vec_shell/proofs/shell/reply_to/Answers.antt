@@ -1,6 +1,6 @@
 use Rattle.std.proofs.Common.{List, ℕ, subst, ◌∙◌}
 use Rattle.row_model.specs.Shelled.{Answers}
-use Rattle.vec_shell.specs.Reads.{Reads}
+use Rattle.vec_shell.specs.ShellTexts.{Reads}
 use Rattle.vec_shell.specs.Pieces.{trim}
 use Rattle.vec_shell.proofs.Kept.{answers_kept}
 use Rattle.vec_shell.proofs.shell.reply_to.Goals as goal

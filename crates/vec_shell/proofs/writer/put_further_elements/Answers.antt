@@ -1,5 +1,5 @@
 use Rattle.std.proofs.Common.{◌∷◌}
-use Rattle.vec_shell.specs.Puts.{element_text}
+use Rattle.vec_shell.specs.inner.Puts.{element_text}
 use Rattle.vec_shell.proofs.Handing.{puts_then, puts_same}
 use Rattle.vec_shell.proofs.Wording.{flat_map_byte}
 use Rattle.vec_shell.proofs.writer.put_further_elements.Goals as goal

@@ -1,5 +1,5 @@
 use Rattle.std.proofs.Common.{take}
-use Rattle.vec_shell.specs.Puts.{Puts, further_elements}
+use Rattle.vec_shell.specs.inner.Puts.{Puts, further_elements}
 use Rattle.vec_shell.proofs.writer.put_further_elements.Given as goal
 
 abbrev pub invariant-loop-element : goal.invariant-loop-element

@@ -1,5 +1,5 @@
 use Rattle.std.proofs.Common.{take}
-use Rattle.vec_shell.specs.Puts.{Puts, further_values}
+use Rattle.vec_shell.specs.inner.Puts.{Puts, further_values}
 use Rattle.vec_shell.proofs.writer.put_further_values.Given as goal
 
 abbrev pub invariant-loop-value : goal.invariant-loop-value

@@ -1,6 +1,6 @@
 use Rattle.std.proofs.Common.{take}
 use Rattle.vec_literal.specs.ValueTexts.{hex_text}
-use Rattle.vec_shell.specs.Puts.{Puts}
+use Rattle.vec_shell.specs.inner.Puts.{Puts}
 use Rattle.vec_shell.proofs.writer.put_hex.Given as goal
 
 abbrev pub invariant-loop-byte : goal.invariant-loop-byte

@@ -1,7 +1,7 @@
 use Rattle.std.proofs.Common.{take}
 use Rattle.std.specs.List.{flat_map}
 use Rattle.vec_shell.specs.Lines.{row_line}
-use Rattle.vec_shell.specs.Puts.{Puts}
+use Rattle.vec_shell.specs.inner.Puts.{Puts}
 use Rattle.vec_shell.proofs.writer.put_rows.Given as goal
 
 abbrev pub invariant-loop-row : goal.invariant-loop-row

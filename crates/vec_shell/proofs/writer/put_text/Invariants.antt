@@ -1,6 +1,6 @@
 use Rattle.std.proofs.Common.{length, ◌-◌, ◌≤◌, take}
 use Rattle.vec_literal.specs.ValueTexts.{doubled}
-use Rattle.vec_shell.specs.Puts.{Puts}
+use Rattle.vec_shell.specs.inner.Puts.{Puts}
 use Rattle.vec_shell.proofs.writer.put_text.Given as goal
 
 abbrev pub invariant-loop-at : goal.invariant-loop-at

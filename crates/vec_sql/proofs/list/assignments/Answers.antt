@@ -1,13 +1,13 @@
 use Rattle.std.proofs.Common.{List, [], ◌∷◌, ◌++◌, sym, ◌∙◌, ap, Err}
 use Rattle.std.proofs.lemmas.Result.{err_from_is_err_and}
-use Rattle.grammar.specs.Gives.{rest_of}
+use Rattle.grammar.specs.inner.ReaderResults.{rest_of}
 use Rattle.grammar.specs.Grammar.{many}
-use Rattle.grammar.specs.Reading.{read}
+use Rattle.grammar.specs.inner.Reading.{read}
 use Rattle.grammar.proofs.Loops.{with_front, takes_some, many_step, many_fails, many_ends, fails_as}
 use Rattle.vec_sql.specs.declared.given.GivenAssign.{GivenAssign}
-use Rattle.vec_sql.specs.Statements.{assignment}
-use Rattle.vec_sql.specs.Factored.{assignments_list, more_assignments}
-use Rattle.vec_sql.specs.Formed.{is_formed_set}
+use Rattle.vec_sql.specs.StatementGrammar.{assignment}
+use Rattle.vec_sql.specs.inner.FactoredStatements.{assignments_list, more_assignments}
+use Rattle.vec_sql.specs.inner.WellFormedGivens.{is_formed_set}
 use Rattle.vec_sql.proofs.Lists.{assignments_first, assignments_none, more_assignments_some, more_assignments_starts, both_pushed, both_started}
 use Rattle.vec_sql.proofs.list.assignments.Goals as goal
 

@@ -1,13 +1,13 @@
 use Rattle.std.proofs.Common.{◌≡◌, true, length}
 use Rattle.std.specs.Prelude.{◌&&◌}
 use Rattle.std.specs.List.{list_all}
-use Rattle.grammar.specs.Gives.{rest_of}
+use Rattle.grammar.specs.inner.ReaderResults.{rest_of}
 use Rattle.grammar.specs.Grammar.{many}
-use Rattle.grammar.specs.Reading.{read}
+use Rattle.grammar.specs.inner.Reading.{read}
 use Rattle.grammar.proofs.Loops.{with_front}
 use Rattle.row_model.specs.WellFormed.{is_filled}
-use Rattle.vec_sql.specs.Factored.{assignments_list, more_assignments}
-use Rattle.vec_sql.specs.Formed.{is_formed_set}
+use Rattle.vec_sql.specs.inner.FactoredStatements.{assignments_list, more_assignments}
+use Rattle.vec_sql.specs.inner.WellFormedGivens.{is_formed_set}
 use Rattle.vec_sql.proofs.list.assignments.Given as goal
 
 abbrev pub invariant-loop-reader : goal.invariant-loop-reader

@@ -1,13 +1,13 @@
 use Rattle.std.proofs.Common.{List, [], ◌∷◌, ◌++◌, sym, ◌∙◌, ap, Err}
 use Rattle.std.proofs.lemmas.Result.{err_from_is_err_and}
-use Rattle.grammar.specs.Gives.{rest_of}
+use Rattle.grammar.specs.inner.ReaderResults.{rest_of}
 use Rattle.grammar.specs.Grammar.{many}
-use Rattle.grammar.specs.Reading.{read}
+use Rattle.grammar.specs.inner.Reading.{read}
 use Rattle.grammar.proofs.Loops.{with_front, takes_some, many_step, many_fails, many_ends, fails_as}
 use Rattle.vec_sql.specs.declared.given.Group.{Group}
-use Rattle.vec_sql.specs.Statements.{group}
-use Rattle.vec_sql.specs.Factored.{groups_list, more_groups}
-use Rattle.vec_sql.specs.Formed.{is_formed_group}
+use Rattle.vec_sql.specs.StatementGrammar.{group}
+use Rattle.vec_sql.specs.inner.FactoredStatements.{groups_list, more_groups}
+use Rattle.vec_sql.specs.inner.WellFormedGivens.{is_formed_group}
 use Rattle.vec_sql.proofs.Lists.{groups_first, groups_none, more_groups_some, more_groups_starts, both_pushed, both_started}
 use Rattle.vec_sql.proofs.list.groups.Goals as goal
 

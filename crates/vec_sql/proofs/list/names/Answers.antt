@@ -1,11 +1,11 @@
 use Rattle.std.proofs.Common.{ℕ, List, [], ◌∷◌, ◌++◌, sym, ◌∙◌, ap, Err}
 use Rattle.std.proofs.lemmas.Result.{err_from_is_err_and}
 use Rattle.vec_base.specs.Words.{is_name}
-use Rattle.grammar.specs.Gives.{rest_of}
+use Rattle.grammar.specs.inner.ReaderResults.{rest_of}
 use Rattle.grammar.specs.Grammar.{many, a_name}
-use Rattle.grammar.specs.Reading.{read}
+use Rattle.grammar.specs.inner.Reading.{read}
 use Rattle.grammar.proofs.Loops.{with_front, takes_some, many_step, many_fails, many_ends, fails_as}
-use Rattle.vec_sql.specs.Factored.{names_list, more_names}
+use Rattle.vec_sql.specs.inner.FactoredStatements.{names_list, more_names}
 use Rattle.vec_sql.proofs.Lists.{names_first, names_none, more_names_some, more_names_starts, both_pushed, both_started}
 use Rattle.vec_sql.proofs.list.names.Goals as goal
 

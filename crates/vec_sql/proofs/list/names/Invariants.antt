@@ -2,12 +2,12 @@ use Rattle.std.proofs.Common.{◌≡◌, true, length}
 use Rattle.std.specs.Prelude.{◌&&◌}
 use Rattle.std.specs.List.{list_all}
 use Rattle.vec_base.specs.Words.{is_name}
-use Rattle.grammar.specs.Gives.{rest_of}
+use Rattle.grammar.specs.inner.ReaderResults.{rest_of}
 use Rattle.grammar.specs.Grammar.{many}
-use Rattle.grammar.specs.Reading.{read}
+use Rattle.grammar.specs.inner.Reading.{read}
 use Rattle.grammar.proofs.Loops.{with_front}
 use Rattle.row_model.specs.WellFormed.{is_filled}
-use Rattle.vec_sql.specs.Factored.{names_list, more_names}
+use Rattle.vec_sql.specs.inner.FactoredStatements.{names_list, more_names}
 use Rattle.vec_sql.proofs.list.names.Given as goal
 
 abbrev pub invariant-loop-reader : goal.invariant-loop-reader

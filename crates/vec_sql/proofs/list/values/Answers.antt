@@ -1,13 +1,13 @@
 use Rattle.std.proofs.Common.{List, [], ◌∷◌, ◌++◌, sym, ◌∙◌, ap, Err}
 use Rattle.std.proofs.lemmas.Result.{err_from_is_err_and}
-use Rattle.grammar.specs.Gives.{rest_of}
+use Rattle.grammar.specs.inner.ReaderResults.{rest_of}
 use Rattle.grammar.specs.Grammar.{many}
-use Rattle.grammar.specs.Reading.{read}
+use Rattle.grammar.specs.inner.Reading.{read}
 use Rattle.grammar.proofs.Loops.{with_front, takes_some, many_step, many_fails, many_ends, fails_as}
 use Rattle.vec_sql.specs.declared.given.Given.{Given}
-use Rattle.vec_sql.specs.Statements.{value}
-use Rattle.vec_sql.specs.Factored.{values_list, more_values}
-use Rattle.vec_sql.specs.Formed.{is_formed_value}
+use Rattle.vec_sql.specs.StatementGrammar.{value}
+use Rattle.vec_sql.specs.inner.FactoredStatements.{values_list, more_values}
+use Rattle.vec_sql.specs.inner.WellFormedGivens.{is_formed_value}
 use Rattle.vec_sql.proofs.Lists.{values_first, values_none, more_values_some, more_values_starts, both_pushed, both_started}
 use Rattle.vec_sql.proofs.list.values.Goals as goal
 

@@ -5,9 +5,9 @@ use Rattle.std.proofs.lemmas.Result.{err_from_is_err_and}
 use Rattle.vec_base.specs.declared.value.Value.{Value}
 use Rattle.vec_sql.specs.declared.flaw.Flaw.{Flaw}
 use Rattle.vec_sql.specs.declared.given.Given.{Given}
-use Rattle.vec_sql.specs.Givens.{concerns_of, uses_of, group_concerns, row}
-use Rattle.vec_sql.specs.Made.{AreTaken, IsMade}
-use Rattle.vec_sql.specs.Reads.{Each, MeansValue, MeansGroup}
+use Rattle.vec_sql.specs.GivenStatements.{concerns_of, uses_of, group_concerns, row}
+use Rattle.vec_sql.specs.inner.PartMeanings.{AreTaken, IsMade}
+use Rattle.vec_sql.specs.StatementReading.{Each, MeansValue, MeansGroup}
 use Rattle.vec_sql.proofs.Making.{flaw_behind}
 use Rattle.vec_sql.proofs.made.row_of.Goals as goal
 

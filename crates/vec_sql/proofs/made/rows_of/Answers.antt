@@ -4,9 +4,9 @@ use Rattle.std.proofs.lemmas.List.{take_all}
 use Rattle.std.proofs.lemmas.Result.{err_from_is_err_and}
 use Rattle.vec_base.specs.declared.value.Value.{Value}
 use Rattle.vec_sql.specs.declared.flaw.Flaw.{Flaw}
-use Rattle.vec_sql.specs.Givens.{uses_of, group_concerns}
-use Rattle.vec_sql.specs.Made.{AreTaken, IsMade}
-use Rattle.vec_sql.specs.Reads.{Each, MeansGroup}
+use Rattle.vec_sql.specs.GivenStatements.{uses_of, group_concerns}
+use Rattle.vec_sql.specs.inner.PartMeanings.{AreTaken, IsMade}
+use Rattle.vec_sql.specs.StatementReading.{Each, MeansGroup}
 use Rattle.vec_sql.proofs.Making.{progress_start, progress_more, progress_end, progress_flaw, taken_more, split_at}
 use Rattle.vec_sql.proofs.made.rows_of.Goals as goal
 

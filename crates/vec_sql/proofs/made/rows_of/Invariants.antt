@@ -1,7 +1,7 @@
 use Rattle.std.proofs.Common.{take}
 use Rattle.std.specs.List.{flat_map}
-use Rattle.vec_sql.specs.Givens.{uses_of, group_concerns}
-use Rattle.vec_sql.specs.Reads.{MeansGroup}
+use Rattle.vec_sql.specs.GivenStatements.{uses_of, group_concerns}
+use Rattle.vec_sql.specs.StatementReading.{MeansGroup}
 use Rattle.vec_sql.proofs.Making.{Progress}
 use Rattle.vec_sql.proofs.made.rows_of.Given as goal
 

@@ -1,6 +1,6 @@
 use Rattle.std.proofs.Common.{take}
-use Rattle.vec_sql.specs.Givens.{concerns_of, uses_of}
-use Rattle.vec_sql.specs.Reads.{MeansAssign}
+use Rattle.vec_sql.specs.GivenStatements.{concerns_of, uses_of}
+use Rattle.vec_sql.specs.StatementReading.{MeansAssign}
 use Rattle.vec_sql.proofs.Making.{Progress}
 use Rattle.vec_sql.proofs.made.sets_of.Given as goal
 

@@ -4,8 +4,8 @@ use Rattle.std.proofs.lemmas.List.{take_all}
 use Rattle.std.proofs.lemmas.Result.{err_from_is_err_and}
 use Rattle.row_model.specs.declared.statement.Constraint.{Constraint}
 use Rattle.vec_sql.specs.declared.flaw.Flaw.{Flaw}
-use Rattle.vec_sql.specs.Made.{test_concerns, test_uses, AreTaken, IsMade}
-use Rattle.vec_sql.specs.Reads.{Each, MeansTerm}
+use Rattle.vec_sql.specs.inner.PartMeanings.{test_concerns, test_uses, AreTaken, IsMade}
+use Rattle.vec_sql.specs.StatementReading.{Each, MeansTerm}
 use Rattle.vec_sql.proofs.Making.{progress_start, progress_more, progress_end, progress_flaw, taken_more, split_at}
 use Rattle.vec_sql.proofs.made.terms_of.Goals as goal
 

@@ -1,6 +1,6 @@
 use Rattle.std.proofs.Common.{take}
-use Rattle.vec_sql.specs.Made.{test_concerns, test_uses}
-use Rattle.vec_sql.specs.Reads.{MeansTerm}
+use Rattle.vec_sql.specs.inner.PartMeanings.{test_concerns, test_uses}
+use Rattle.vec_sql.specs.StatementReading.{MeansTerm}
 use Rattle.vec_sql.proofs.Making.{Progress}
 use Rattle.vec_sql.proofs.made.terms_of.Given as goal
 

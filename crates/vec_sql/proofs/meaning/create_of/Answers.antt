@@ -1,7 +1,7 @@
 use Rattle.std.proofs.Common.{Err, Some, subst, sym, ◌∙◌, ap, ℕ}
 use Rattle.vec_base.specs.declared.refusal.Refusal.{Refusal}
 use Rattle.row_model.specs.declared.schema.Schema.{Schema}
-use Rattle.vec0_columns.specs.Columns.{IsAnswer, answer_of}
+use Rattle.vec0_columns.specs.ColumnGrammar.{IsAnswer, answer_of}
 use Rattle.vec_sql.proofs.Meant.{created, rule_broken}
 use Rattle.vec_sql.proofs.meaning.create_of.Goals as goal
 

@@ -2,7 +2,7 @@ use Rattle.std.proofs.Common.{List, subst, sym}
 use Rattle.vec0_columns.specs.declared.text.Arg.{Arg}
 use Rattle.vec_sql.specs.declared.given.GivenStatement.{GivenStatement}
 use Rattle.vec_sql.specs.declared.given.GivenStatement.TheVariants as statements
-use Rattle.vec_sql.specs.Made.{IsStatementMade}
+use Rattle.vec_sql.specs.inner.PartMeanings.{IsStatementMade}
 use Rattle.vec_sql.proofs.meaning.statement_of.Goals as goal
 
 pub returns-in-Create : goal.returns-in-Create

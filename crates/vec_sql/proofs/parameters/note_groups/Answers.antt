@@ -2,8 +2,8 @@ use Rattle.std.proofs.Common.{◌+◌, take, subst, List}
 use Rattle.std.specs.List.{flat_map}
 use Rattle.std.proofs.lemmas.List.{take_all}
 use Rattle.vec_sql.specs.declared.given.Given.{Given}
-use Rattle.vec_sql.specs.Givens.{uses_of}
-use Rattle.vec_sql.specs.Noted.{NotesMore}
+use Rattle.vec_sql.specs.GivenStatements.{uses_of}
+use Rattle.vec_sql.specs.inner.ParameterNotes.{NotesMore}
 use Rattle.vec_sql.proofs.Making.{taken_more}
 use Rattle.vec_sql.proofs.Noting.{notes_more, notes_end}
 use Rattle.vec_sql.proofs.parameters.note_groups.Goals as goal

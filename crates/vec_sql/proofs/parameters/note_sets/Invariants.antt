@@ -1,7 +1,7 @@
 use Rattle.std.proofs.Common.{take}
 use Rattle.std.specs.List.{flat_map}
-use Rattle.vec_sql.specs.Givens.{uses_of}
-use Rattle.vec_sql.specs.Noted.{NotesMore}
+use Rattle.vec_sql.specs.GivenStatements.{uses_of}
+use Rattle.vec_sql.specs.inner.ParameterNotes.{NotesMore}
 use Rattle.vec_sql.proofs.parameters.note_sets.Given as goal
 
 abbrev pub invariant-loop-set : goal.invariant-loop-set

@@ -1,7 +1,7 @@
 use Rattle.std.proofs.Common.{take}
 use Rattle.std.specs.List.{flat_map}
-use Rattle.vec_sql.specs.Made.{test_uses}
-use Rattle.vec_sql.specs.Noted.{NotesMore}
+use Rattle.vec_sql.specs.inner.PartMeanings.{test_uses}
+use Rattle.vec_sql.specs.inner.ParameterNotes.{NotesMore}
 use Rattle.vec_sql.proofs.parameters.note_terms.Given as goal
 
 abbrev pub invariant-loop-term : goal.invariant-loop-term

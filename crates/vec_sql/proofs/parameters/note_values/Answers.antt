@@ -1,6 +1,6 @@
 use Rattle.std.proofs.Common.{◌+◌, take}
 use Rattle.std.proofs.lemmas.List.{take_all}
-use Rattle.vec_sql.specs.Givens.{uses_of}
+use Rattle.vec_sql.specs.GivenStatements.{uses_of}
 use Rattle.vec_sql.proofs.Making.{taken_more}
 use Rattle.vec_sql.proofs.Noting.{notes_more, notes_end}
 use Rattle.vec_sql.proofs.parameters.note_values.Goals as goal

@@ -1,9 +1,9 @@
 use Rattle.std.proofs.Common.{◌≤◌, ℕ, List, [], length, Option, None, refl, subst, sym, arith}
 use Rattle.std.specs.Prelude.{MatchOption}
-use Rattle.vec_sql.specs.Givens.{Use, uses}
-use Rattle.vec_sql.specs.Made.{ordered_uses}
-use Rattle.vec_sql.specs.Noted.{Noted, fault_of}
-use Rattle.vec_sql.specs.Reads.{ParametersFit, IsParameterFault, greatest}
+use Rattle.vec_sql.specs.GivenStatements.{Use, uses}
+use Rattle.vec_sql.specs.inner.PartMeanings.{ordered_uses}
+use Rattle.vec_sql.specs.inner.ParameterNotes.{Noted, fault_of}
+use Rattle.vec_sql.specs.StatementReading.{ParametersFit, IsParameterFault, greatest}
 use Rattle.vec_sql.proofs.Meant.{formed_small, uses_ordered}
 use Rattle.vec_sql.proofs.Noting.{noted_none, fault_told}
 use Rattle.vec_sql.proofs.parameters.parameter_fault.Goals as goal

@@ -1,7 +1,7 @@
 -- The text so far has the parts before the next one, and they are held.
 use Rattle.std.proofs.Common.{◌≡◌, ◌++◌, take, string_bytes}
 use Rattle.std.specs.List.{AllByRecursion}
-use Rattle.vec_sql.specs.Canonical.{behind}
+use Rattle.vec_sql.specs.CanonicalStatements.{behind}
 use Rattle.vec_sql.proofs.piece.write_behind.Given as goal
 
 abbrev pub invariant-loop-piece : goal.invariant-loop-piece

@@ -1,10 +1,10 @@
 use Rattle.std.proofs.Common.{List, sym, ◌∙◌, ap, inl, inr, Ok}
 use Rattle.std.proofs.lemmas.Bool.{MatchBool-at_true, MatchBool-at_false}
 use Rattle.vec_literal.specs.Tokens.{Token}
-use Rattle.grammar.specs.Gives.{rest_of}
+use Rattle.grammar.specs.inner.ReaderResults.{rest_of}
 use Rattle.grammar.specs.Parameters.{numbered_tokens}
-use Rattle.grammar.specs.Reading.{read}
-use Rattle.vec_sql.specs.Factored.{factored_statement}
+use Rattle.grammar.specs.inner.Reading.{read}
+use Rattle.vec_sql.specs.inner.FactoredStatements.{factored_statement}
 use Rattle.vec_sql.proofs.Spelled.{spelled_whole, spelled_only, more_left, stopped}
 use Rattle.vec_sql.proofs.read.given_of.Goals as goal
 

@@ -5,9 +5,9 @@ use Rattle.vec_base.specs.declared.refusal.Refusal.TheVariants.{WantOfMemory}
 use Rattle.vec_base.specs.declared.value.Value.{Value}
 use Rattle.row_model.specs.WellFormed.{IsWellFormed}
 use Rattle.row_model.specs.declared.statement.Statement.{Statement}
-use Rattle.vec_sql.specs.Givens.{uses}
-use Rattle.vec_sql.specs.Made.{IsStatementMade}
-use Rattle.vec_sql.specs.Reads.{IsParameterFault, IsRefusal, ParametersFit, SpellsStatement}
+use Rattle.vec_sql.specs.GivenStatements.{uses}
+use Rattle.vec_sql.specs.inner.PartMeanings.{IsStatementMade}
+use Rattle.vec_sql.specs.StatementReading.{IsParameterFault, IsRefusal, ParametersFit, SpellsStatement}
 use Rattle.vec_sql.proofs.Answering.{ends_ok, ends_err, ends_only, ends_whole, ok_given}
 use Rattle.vec_sql.proofs.read.read_statement.Goals as goal
 

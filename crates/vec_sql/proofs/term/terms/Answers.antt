@@ -1,12 +1,12 @@
 use Rattle.std.proofs.Common.{List, [], ◌∷◌, ◌++◌, sym, ◌∙◌, ap, Err}
 use Rattle.std.proofs.lemmas.Result.{err_from_is_err_and}
-use Rattle.grammar.specs.Gives.{rest_of}
+use Rattle.grammar.specs.inner.ReaderResults.{rest_of}
 use Rattle.grammar.specs.Grammar.{many}
-use Rattle.grammar.specs.Reading.{read}
+use Rattle.grammar.specs.inner.Reading.{read}
 use Rattle.grammar.proofs.Loops.{with_front, takes_some, many_step, many_fails, many_ends, fails_as}
 use Rattle.vec_sql.specs.declared.given.GivenTerm.{GivenTerm}
-use Rattle.vec_sql.specs.Factored.{terms_list, more_terms, factored_term}
-use Rattle.vec_sql.specs.Formed.{is_formed_term}
+use Rattle.vec_sql.specs.inner.FactoredStatements.{terms_list, more_terms, factored_term}
+use Rattle.vec_sql.specs.inner.WellFormedGivens.{is_formed_term}
 use Rattle.vec_sql.proofs.Lists.{terms_first, terms_none, more_terms_some, more_terms_starts, all_pushed, all_started}
 use Rattle.vec_sql.proofs.term.terms.Goals as goal
 

@@ -1,11 +1,11 @@
 use Rattle.std.proofs.Common.{◌≡◌, true, length}
 use Rattle.std.specs.List.{list_all}
-use Rattle.grammar.specs.Gives.{rest_of}
+use Rattle.grammar.specs.inner.ReaderResults.{rest_of}
 use Rattle.grammar.specs.Grammar.{many}
-use Rattle.grammar.specs.Reading.{read}
+use Rattle.grammar.specs.inner.Reading.{read}
 use Rattle.grammar.proofs.Loops.{with_front}
-use Rattle.vec_sql.specs.Factored.{terms_list, more_terms}
-use Rattle.vec_sql.specs.Formed.{is_formed_term}
+use Rattle.vec_sql.specs.inner.FactoredStatements.{terms_list, more_terms}
+use Rattle.vec_sql.specs.inner.WellFormedGivens.{is_formed_term}
 use Rattle.vec_sql.proofs.term.terms.Given as goal
 
 abbrev pub invariant-loop-alloc : goal.invariant-loop-alloc

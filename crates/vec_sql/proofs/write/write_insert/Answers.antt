@@ -1,5 +1,5 @@
 use Rattle.std.proofs.Common.{codes, ◌++◌}
-use Rattle.vec_sql.specs.Canonical.{listed, name_text, group_text}
+use Rattle.vec_sql.specs.CanonicalStatements.{listed, name_text, group_text}
 use Rattle.vec_literal.proofs.Written.{written_more, written_last}
 use Rattle.vec_sql.proofs.write.write_insert.Goals as goal
 

@@ -1,6 +1,6 @@
 -- The text is the canonical one, which spells the statement.
 use Rattle.std.proofs.Common.{◌≡◌, rules}
-use Rattle.vec_sql.specs.Canonical.{statement_text}
+use Rattle.vec_sql.specs.CanonicalStatements.{statement_text}
 use Rattle.vec_sql.proofs.ReadBack.{text_spells}
 use Rattle.vec_sql.proofs.write.write_statement.Goals as goal
 

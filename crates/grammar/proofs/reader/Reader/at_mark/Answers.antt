@@ -1,6 +1,6 @@
 use Rattle.std.proofs.lemmas.Slice.Eq.{bytes_eq-Decides}
 use Rattle.std.proofs.Common.{◌≡◌, Bool, ℕ, List, IsTrue, ◌↔◌, sym, ◌∙◌, subst}
-use Rattle.grammar.specs.Gives.{rest_of}
+use Rattle.grammar.specs.inner.ReaderResults.{rest_of}
 use Rattle.grammar.proofs.Places.{mark_at, mark_not_at}
 use Rattle.grammar.proofs.reader.Reader.at_mark.Goals as goal
 

@@ -1,5 +1,5 @@
 use Rattle.std.proofs.Common.{◌≡◌, ℕ, List, IsTrue, ◌↔◌, sym, ◌∙◌, subst}
-use Rattle.grammar.specs.Gives.{rest_of}
+use Rattle.grammar.specs.inner.ReaderResults.{rest_of}
 use Rattle.grammar.specs.Grammar.{lowered}
 use Rattle.grammar.proofs.Places.{word_at, word_not_at}
 use Rattle.grammar.proofs.reader.Reader.at_word.Goals as goal

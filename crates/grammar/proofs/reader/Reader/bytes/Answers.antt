@@ -1,4 +1,4 @@
-use Rattle.grammar.specs.Gives.{spelled_rest}
+use Rattle.grammar.specs.inner.ReaderResults.{spelled_rest}
 use Rattle.grammar.proofs.Numbering.{spelling_kept, told_kept}
 use Rattle.grammar.proofs.reader.Reader.bytes.Goals as goal
 

@@ -1,6 +1,6 @@
 use Rattle.std.proofs.Common.{◌≤◌, ℕ, List, length, true, sym, subst}
 use Rattle.vec_literal.specs.declared.token.TokenSort.TheVariants as sorts
-use Rattle.grammar.specs.Gives.{spelled_rest, first_of}
+use Rattle.grammar.specs.inner.ReaderResults.{spelled_rest, first_of}
 use Rattle.grammar.proofs.Numbering.{sort_spelled, param_some}
 use Rattle.grammar.proofs.reader.Reader.digits.Goals as goal
 

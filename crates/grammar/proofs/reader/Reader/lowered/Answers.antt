@@ -1,5 +1,5 @@
 use Rattle.std.proofs.Common.{◌≡◌, rules}
-use Rattle.grammar.specs.Gives.{rest_of, first_of}
+use Rattle.grammar.specs.inner.ReaderResults.{rest_of, first_of}
 use Rattle.grammar.specs.Grammar.{lower}
 use Rattle.grammar.proofs.Places.{name_is_word, name_kept}
 use Rattle.grammar.proofs.reader.Reader.lowered.Goals as goal

@@ -1,5 +1,5 @@
 use Rattle.std.proofs.Common.{sym, ◌∙◌}
-use Rattle.grammar.specs.Gives.{rest_of, first_of}
+use Rattle.grammar.specs.inner.ReaderResults.{rest_of, first_of}
 use Rattle.grammar.proofs.Places.{number_not, number_result, told_number}
 use Rattle.grammar.proofs.reader.Reader.number_at.Goals as goal
 

@@ -1,7 +1,7 @@
 use Rattle.std.proofs.Common.{length, true, sym, ◌∙◌, ap}
 use Rattle.std.proofs.lemmas.Bool.{eqb-true, eqb-false}
 use Rattle.vec_literal.specs.declared.token.TokenSort.TheVariants as sorts
-use Rattle.grammar.specs.Gives.{rest_of, spelled_rest, first_of}
+use Rattle.grammar.specs.inner.ReaderResults.{rest_of, spelled_rest, first_of}
 use Rattle.grammar.proofs.Numbering.{no_parameter_at, sort_spelled, digits_numeral, plain_at, digits_at}
 use Rattle.grammar.proofs.reader.Reader.parameter_at.Goals as goal
 

@@ -1,6 +1,6 @@
 use Rattle.std.proofs.Common.{ap, ◌∙◌, List, Option, ℕ}
 use Rattle.vec_literal.specs.Tokens.{Token}
-use Rattle.grammar.specs.Gives.{spelled_rest}
+use Rattle.grammar.specs.inner.ReaderResults.{spelled_rest}
 use Rattle.grammar.specs.Parameters.{numbered_from}
 use Rattle.grammar.proofs.Numbering.{stepped}
 use Rattle.grammar.proofs.reader.Reader.step.Goals as goal

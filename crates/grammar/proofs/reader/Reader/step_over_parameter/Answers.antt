@@ -2,7 +2,7 @@ use Rattle.std.proofs.Common.{ap, ◌∙◌, List, Option, ℕ}
 use Rattle.std.specs.Prelude.{max}
 use Rattle.std.specs.Option.{option_map}
 use Rattle.vec_literal.specs.Tokens.{Token}
-use Rattle.grammar.specs.Gives.{spelled_rest}
+use Rattle.grammar.specs.inner.ReaderResults.{spelled_rest}
 use Rattle.grammar.specs.Parameters.{numbered_from}
 use Rattle.grammar.proofs.Numbering.{parameter_stepped}
 use Rattle.grammar.proofs.reader.Reader.step_over_parameter.Goals as goal

@@ -1,4 +1,4 @@
-use Rattle.grammar.specs.Gives.{rest_of, first_of}
+use Rattle.grammar.specs.inner.ReaderResults.{rest_of, first_of}
 use Rattle.grammar.proofs.Places.{told_word}
 use Rattle.grammar.proofs.reader.Reader.word_text.Goals as goal
 

@@ -1,5 +1,5 @@
 use Rattle.std.proofs.Common.{length, ◌-◌, ◌≤◌, take}
-use Rattle.vec_shell.specs.Puts.{Puts}
+use Rattle.vec_shell.specs.inner.Puts.{Puts}
 use Rattle.vec_shell.proofs.output.Output.put.Given as goal
 
 abbrev pub invariant-loop-at : goal.invariant-loop-at

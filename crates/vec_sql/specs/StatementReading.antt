@@ -7,7 +7,7 @@ use Rattle.vec_base.specs.declared.value.Value.{Value}
 use Rattle.vec_base.specs.declared.value.Value.TheVariants as values
 use Rattle.vec_literal.specs.Int8.{SpellsInt8}
 use Rattle.vec_literal.specs.Tokens.{Token}
-use Rattle.grammar.specs.Gives.{refusal_of}
+use Rattle.grammar.specs.inner.ReaderResults.{refusal_of}
 use Rattle.grammar.specs.Grammar.{Spells, FailsAt}
 use Rattle.grammar.specs.Parameters.{numbered_tokens}
 use Rattle.row_model.specs.declared.statement.Assign.{Assign}
@@ -20,7 +20,7 @@ use Rattle.row_model.specs.declared.statement.Statement.TheVariants as read
 use Rattle.row_model.specs.declared.statement.Test.{Test}
 use Rattle.row_model.specs.declared.statement.Update.{Update}
 use Rattle.row_model.specs.declared.statement.Test.TheVariants as asked
-use Rattle.vec0_columns.specs.Columns.{text_fault, schema_of, text_limit}
+use Rattle.vec0_columns.specs.ColumnGrammar.{text_fault, schema_of, text_limit}
 use Rattle.vec_sql.specs.declared.given.Given.{Given}
 use Rattle.vec_sql.specs.declared.given.Given.TheVariants as givens
 use Rattle.vec_sql.specs.declared.given.Group.{Group}
@@ -31,8 +31,8 @@ use Rattle.vec_sql.specs.declared.given.GivenTerm.{GivenTerm}
 use Rattle.vec_sql.specs.declared.given.GivenSelect.{GivenSelect}
 use Rattle.vec_sql.specs.declared.given.GivenStatement.{GivenStatement}
 use Rattle.vec_sql.specs.declared.given.GivenStatement.TheVariants as statements
-use Rattle.vec_sql.specs.Givens.{Concern, literal, row, concerns, Taker, any, int8, bits, Use, uses, items_in, terms_in}
-use Rattle.vec_sql.specs.Statements.{statement}
+use Rattle.vec_sql.specs.GivenStatements.{Concern, literal, row, concerns, Taker, any, int8, bits, Use, uses, items_in, terms_in}
+use Rattle.vec_sql.specs.StatementGrammar.{statement}
 
 -- ---- texts of vectors, and rows
 
@@ -170,7 +170,7 @@ MeansGroup params group values = Each (MeansValue params) group.values values
 pub record MeansSelect (params : List Value) (given : GivenSelect) (select : Select) : Type 0 where
   pub table : select.table ≡ given.table
   pub items : select.items ≡ given.items
-  pub wanted : Each (MeansTerm params) given.wanted select.wanted
+  pub where_terms : Each (MeansTerm params) given.where_terms select.where_terms
   pub order : select.order ≡ given.order
   pub limit : EachOption (MeansValue params) given.limit select.limit
 
@@ -182,11 +182,11 @@ pub record MeansInsert (params : List Value) (name : List ℕ) (names : List (Li
 pub record MeansUpdate (params : List Value) (name : List ℕ) (assigns : List GivenAssign) (terms : List GivenTerm) (update : Update) : Type 0 where
   pub table : update.table ≡ name
   pub sets : Each (MeansAssign params) assigns update.sets
-  pub wanted : Each (MeansTerm params) terms update.wanted
+  pub where_terms : Each (MeansTerm params) terms update.where_terms
 
 pub record MeansDelete (params : List Value) (name : List ℕ) (terms : List GivenTerm) (delete : Delete) : Type 0 where
   pub table : delete.table ≡ name
-  pub wanted : Each (MeansTerm params) terms delete.wanted
+  pub where_terms : Each (MeansTerm params) terms delete.where_terms
 
 -- the statement that is given so, with these parameters
 abbrev pub Means : List Value → GivenStatement → Statement → Type 0

@@ -30,13 +30,13 @@ IsHeldLimit None = ⊤
 IsHeldLimit (Some value) = IsHeld value
 
 pub record IsHeldSelect (select : SelectRows) : Type 0 where
-  pub wanted : AllByRecursion IsHeldTerm select.wanted
+  pub where_terms : AllByRecursion IsHeldTerm select.where_terms
   pub limit : IsHeldLimit select.limit
 
 abbrev pub IsHeldStatement : Statement → Type 0
 IsHeldStatement (Insert insert) = AllByRecursion AreHeld insert.rows
-IsHeldStatement (Update update) = AllByRecursion IsHeldAssign update.sets × AllByRecursion IsHeldTerm update.wanted
-IsHeldStatement (Delete delete) = AllByRecursion IsHeldTerm delete.wanted
+IsHeldStatement (Update update) = AllByRecursion IsHeldAssign update.sets × AllByRecursion IsHeldTerm update.where_terms
+IsHeldStatement (Delete delete) = AllByRecursion IsHeldTerm delete.where_terms
 IsHeldStatement (Select select) = IsHeldSelect select
 IsHeldStatement (Explain select) = IsHeldSelect select
 IsHeldStatement other = ⊤

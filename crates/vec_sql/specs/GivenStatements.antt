@@ -29,7 +29,7 @@ in_limit None = []
 in_limit (Some given) = given ∷ []
 
 abbrev pub in_select : GivenSelect → List Given
-in_select select = in_terms select.wanted ++ in_limit select.limit
+in_select select = in_terms select.where_terms ++ in_limit select.limit
 
 abbrev pub in_groups : List Group → List Given
 in_groups groups = flat_map (λ group. group.values) groups
@@ -102,6 +102,6 @@ items_in other = 0
 abbrev pub terms_in : GivenStatement → ℕ
 terms_in (statements.Update table sets terms) = length terms
 terms_in (statements.Delete table terms) = length terms
-terms_in (statements.Select select) = length select.wanted
-terms_in (statements.Explain select) = length select.wanted
+terms_in (statements.Select select) = length select.where_terms
+terms_in (statements.Explain select) = length select.where_terms
 terms_in other = 0

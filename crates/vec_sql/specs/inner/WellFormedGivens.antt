@@ -6,7 +6,7 @@ use Rattle.vec_base.specs.Words.{is_name}
 use Rattle.row_model.specs.declared.statement.Items.{Items}
 use Rattle.row_model.specs.declared.statement.Items.TheVariants as items
 use Rattle.row_model.specs.WellFormed.{is_filled}
-use Rattle.vec0_columns.specs.Columns.{has_name}
+use Rattle.vec0_columns.specs.ColumnGrammar.{has_name}
 use Rattle.vec_sql.specs.declared.given.Given.{Given}
 use Rattle.vec_sql.specs.declared.given.Given.TheVariants as givens
 use Rattle.vec_sql.specs.declared.given.Group.{Group}
@@ -55,7 +55,7 @@ are_formed_items items.All = true
 are_formed_items (items.Named names) = are_names names
 
 abbrev pub is_formed_select : GivenSelect → Bool
-is_formed_select select = is_name select.table && (are_formed_items select.items && (list_all is_formed_term select.wanted && is_formed_limit select.limit))
+is_formed_select select = is_name select.table && (are_formed_items select.items && (list_all is_formed_term select.where_terms && is_formed_limit select.limit))
 
 abbrev pub is_formed : GivenStatement → Bool
 is_formed (statements.Create table columns) = is_name table && list_all has_name columns

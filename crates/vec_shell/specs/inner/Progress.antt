@@ -7,10 +7,10 @@ use Rattle.row_model.specs.declared.state.State.{State}
 use Rattle.row_model.specs.Shelled.{AnswersAll}
 use Rattle.vec_shell.specs.declared.cutter.Cutter.{Cutter}
 use Rattle.vec_shell.specs.declared.tally.Tally.{Tally}
-use Rattle.vec_shell.specs.Reads.{Reads}
+use Rattle.vec_shell.specs.ShellTexts.{Reads}
 use Rattle.vec_shell.specs.Headline.{BrokenOff}
 use Rattle.vec_shell.specs.Lines.{lines_of}
-use Rattle.vec_shell.specs.Parts.{Stands, Counts}
+use Rattle.vec_shell.specs.inner.ShellParts.{Stands, Counts}
 use Rattle.vec_shell.specs.Pieces.{texts_of, ended_from, rest_from}
 use Rattle.vec_shell.specs.Sending.{IsFront, Sent}
 

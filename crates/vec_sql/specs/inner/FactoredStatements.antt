@@ -4,10 +4,10 @@ use Rattle.vec_base.specs.declared.value.Op.{Op}
 use Rattle.vec_base.specs.declared.value.Op.TheVariants as ops
 use Rattle.vec_base.specs.declared.value.Value.TheVariants as values
 use Rattle.grammar.specs.Grammar.{Part, seq, alt, opt, many, means, ◌▸◌, ◌◂◌, a_word, a_mark, a_name, a_placed_text, a_blob, a_parameter}
-use Rattle.grammar.specs.Reading.{or_default}
+use Rattle.grammar.specs.inner.Reading.{or_default}
 use Rattle.row_model.specs.declared.statement.Order.{Order}
 use Rattle.row_model.specs.declared.statement.Order.TheVariants as orders
-use Rattle.vec0_columns.specs.Factored.{factored_columns}
+use Rattle.vec0_columns.specs.inner.FactoredColumns.{factored_columns}
 use Rattle.vec_sql.specs.declared.given.Given.{Given}
 use Rattle.vec_sql.specs.declared.given.Given.TheVariants as givens
 use Rattle.vec_sql.specs.declared.given.Group.{Group}
@@ -17,7 +17,7 @@ use Rattle.vec_sql.specs.declared.given.GivenTerm.{GivenTerm}
 use Rattle.vec_sql.specs.declared.given.GivenSelect.{GivenSelect}
 use Rattle.vec_sql.specs.declared.given.GivenStatement.{GivenStatement}
 use Rattle.vec_sql.specs.declared.given.GivenStatement.TheVariants as statements
-use Rattle.vec_sql.specs.Statements.{list_of, in_parentheses, word_for, mark_for, or_none, may_say, constant, vec_int8, vec_bit, value, group, term_of, comparison, member, match_of, order, items_part, limit, drop_table, insert, assignment, begin, commit, rollback, savepoint, release}
+use Rattle.vec_sql.specs.StatementGrammar.{list_of, in_parentheses, word_for, mark_for, or_none, may_say, constant, vec_int8, vec_bit, value, group, term_of, comparison, member, match_of, order, items_part, limit, drop_table, insert, assignment, begin, commit, rollback, savepoint, release}
 
 -- ---- parts of choices
 
@@ -104,7 +104,7 @@ maybe_limit = opt limit
 
 unfoldable pub factored_select : Part GivenSelect
 factored_select =
-    means (λ x. record { table = x.1.0; items = x.0; wanted = x.1.1.0; order = x.1.1.1.0; limit = x.1.1.1.1 })
+    means (λ x. record { table = x.1.0; items = x.0; where_terms = x.1.1.0; order = x.1.1.1.0; limit = x.1.1.1.1 })
     (a_word (codes "SELECT") ▸ seq items_part (a_word (codes "FROM") ▸ seq a_name (seq maybe_where (seq maybe_order maybe_limit))))
 
 -- ---- the statements

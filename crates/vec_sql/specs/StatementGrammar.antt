@@ -5,12 +5,12 @@ use Rattle.vec_base.specs.declared.value.Op.TheVariants as ops
 use Rattle.vec_base.specs.declared.value.Value.{Value}
 use Rattle.vec_base.specs.declared.value.Value.TheVariants as values
 use Rattle.grammar.specs.Grammar.{Part, seq, alt, opt, many, means, ◌▸◌, ◌◂◌, a_word, a_mark, a_placed_mark, a_name, a_text, a_placed_text, a_blob, a_parameter, a_signed_number}
-use Rattle.grammar.specs.Reading.{or_default}
+use Rattle.grammar.specs.inner.Reading.{or_default}
 use Rattle.row_model.specs.declared.statement.Items.{Items}
 use Rattle.row_model.specs.declared.statement.Items.TheVariants as items
 use Rattle.row_model.specs.declared.statement.Order.{Order}
 use Rattle.row_model.specs.declared.statement.Order.TheVariants as orders
-use Rattle.vec0_columns.specs.Columns.{columns}
+use Rattle.vec0_columns.specs.ColumnGrammar.{columns}
 use Rattle.vec_sql.specs.declared.given.Given.{Given}
 use Rattle.vec_sql.specs.declared.given.Given.TheVariants as givens
 use Rattle.vec_sql.specs.declared.given.Group.{Group}
@@ -138,7 +138,7 @@ limit = a_word (codes "LIMIT") ▸ value
 -- select = SELECT ( * | name {, name} ) FROM name [where] [order] [LIMIT value]
 unfoldable pub select : Part GivenSelect
 select =
-    means (λ x. record { table = x.1.0; items = x.0; wanted = x.1.1.0; order = x.1.1.1.0; limit = x.1.1.1.1 })
+    means (λ x. record { table = x.1.0; items = x.0; where_terms = x.1.1.0; order = x.1.1.1.0; limit = x.1.1.1.1 })
     (a_word (codes "SELECT") ▸ seq items_part (a_word (codes "FROM") ▸
     seq a_name (seq (or_none where_part) (seq (means (or_default orders.Unsaid) (opt order)) (opt limit)))))
 

@@ -2,13 +2,13 @@
 use Rattle.std.specs.Prelude.{List, ◌∷◌, codes}
 use Rattle.vec_literal.specs.Tokens.{Token}
 use Rattle.grammar.specs.Grammar.{Part, one, seq, alt, opt, many, means, sign, ◌▸◌, a_mark}
-use Rattle.grammar.specs.Reading.{or_default}
+use Rattle.grammar.specs.inner.Reading.{or_default}
 use Rattle.row_model.specs.declared.schema.Kind.{Kind}
 use Rattle.row_model.specs.declared.schema.Kind.TheVariants as kinds
 use Rattle.vec0_columns.specs.declared.text.Spelled.{Spelled}
 use Rattle.vec0_columns.specs.declared.text.Spelled.TheVariants.{Plain}
 use Rattle.vec0_columns.specs.declared.text.Arg.{Arg}
-use Rattle.vec0_columns.specs.Columns.{integer_word, boolean_word, text_word, blob_word, stands_for, primary_key, partition_key, int8, bits, column, auxiliary, chunk_size}
+use Rattle.vec0_columns.specs.ColumnGrammar.{integer_word, boolean_word, text_word, blob_word, stands_for, primary_key, partition_key, int8, bits, column, auxiliary, chunk_size}
 
 -- PRIMARY KEY | PARTITION KEY
 unfoldable pub key : Kind → Kind → Part Spelled

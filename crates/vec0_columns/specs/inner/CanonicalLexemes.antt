@@ -6,7 +6,7 @@ use Rattle.row_model.specs.declared.schema.Column.{Column}
 use Rattle.row_model.specs.declared.schema.Kind.{Kind}
 use Rattle.row_model.specs.declared.schema.Kind.TheVariants.{IntKey, TextKey, Int8Vector, BitVector, IntPartition, TextPartition, IntMeta, TextMeta, BoolMeta, IntAux, TextAux, BlobAux}
 use Rattle.row_model.specs.declared.schema.Schema.{Schema}
-use Rattle.row_model.specs.Canonical.{metric_text}
+use Rattle.row_model.specs.CanonicalColumns.{metric_text}
 use Rattle.vec_literal.specs.Lexemes.{Lexeme, word_lexeme, number_lexeme, mark_lexeme}
 
 -- a number in brackets

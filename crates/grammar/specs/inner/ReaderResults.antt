@@ -11,7 +11,7 @@ use Rattle.grammar.specs.declared.reader.Stop.TheVariants as stops
 use Rattle.grammar.specs.Grammar.{is_sort, parameter, number_of, parameter_number, lower, lowered}
 use Rattle.grammar.specs.Parameters.{numbered_from}
 use Rattle.vec_base.specs.Words.{unsupported_number}
-use Rattle.grammar.specs.Reading.{Outcome, next_in}
+use Rattle.grammar.specs.inner.Reading.{Outcome, next_in}
 
 -- the tokens that the reader has before it, as they stand in the text
 abbrev pub spelled_rest : Reader → List Token

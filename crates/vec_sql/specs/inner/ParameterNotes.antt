@@ -2,9 +2,9 @@
 use Rattle.std.specs.Prelude.{◌≡◌, ℕ, ◌+◌, Bool, if◌then◌else◌, nat_lt, max, List, ◌++◌, Option, Some, None, MatchOption}
 use Rattle.vec_base.specs.declared.value.Value.{Value}
 use Rattle.vec_sql.specs.declared.parameters.Notes.{Notes}
-use Rattle.vec_sql.specs.Givens.{Use}
-use Rattle.vec_sql.specs.Made.{AreTaken}
-use Rattle.vec_sql.specs.Reads.{IsLeastUntaken, greatest}
+use Rattle.vec_sql.specs.GivenStatements.{Use}
+use Rattle.vec_sql.specs.inner.PartMeanings.{AreTaken}
+use Rattle.vec_sql.specs.StatementReading.{IsLeastUntaken, greatest}
 
 -- these are noted
 pub record Noted (params : List Value) (seen : List Use) (notes : Notes) : Type 0 where

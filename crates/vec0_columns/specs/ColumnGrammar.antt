@@ -4,7 +4,7 @@ use Rattle.std.specs.List.{list_any, count_by}
 use Rattle.vec_base.specs.declared.refusal.Refusal.{Refusal}
 use Rattle.vec_base.specs.declared.refusal.Refusal.TheVariants as refusals
 use Rattle.vec_literal.specs.Tokens.{Token, tokens}
-use Rattle.grammar.specs.Gives.{refusal_of}
+use Rattle.grammar.specs.inner.ReaderResults.{refusal_of}
 use Rattle.grammar.specs.Grammar.{Part, one, seq, alt, opt, many, means, sign, ◌▸◌, ◌◂◌, a_word, a_mark, a_name, a_number, Spells, SpellsFront, FailsAt, FailsInside}
 use Rattle.vec_base.specs.Words.{is_name}
 use Rattle.row_model.specs.declared.schema.Column.{Column}

@@ -7,9 +7,9 @@ use Rattle.vec_shell.specs.declared.shell.Ending.{Ending}
 use Rattle.vec_shell.specs.declared.shell.Ending.TheVariants.{Whole, ReadFault, WriteFault}
 use Rattle.vec_shell.specs.declared.tally.Tally.{Tally}
 use Rattle.vec_shell.specs.Headline.{LeavesNone}
-use Rattle.vec_shell.specs.Parts.{Counts}
+use Rattle.vec_shell.specs.inner.ShellParts.{Counts}
 use Rattle.vec_shell.specs.Pieces.{pieces_of, ended_of, rest_of, texts_of}
-use Rattle.vec_shell.specs.Progress.{Moment, Progress, Stopped}
+use Rattle.vec_shell.specs.inner.Progress.{Moment, Progress, Stopped}
 use Rattle.vec_shell.specs.Sending.{IsFront}
 use Rattle.vec_shell.specs.Statuses.{status_of}
 

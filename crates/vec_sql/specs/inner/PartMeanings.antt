@@ -6,7 +6,7 @@ use Rattle.vec_base.specs.declared.refusal.Refusal.{Refusal}
 use Rattle.vec_base.specs.declared.refusal.Refusal.TheVariants as refusals
 use Rattle.vec_base.specs.declared.value.Value.{Value}
 use Rattle.vec_literal.specs.Tokens.{Token}
-use Rattle.grammar.specs.Gives.{refusal_of}
+use Rattle.grammar.specs.inner.ReaderResults.{refusal_of}
 use Rattle.grammar.specs.Grammar.{FailsAt}
 use Rattle.grammar.specs.Parameters.{numbered_tokens}
 use Rattle.row_model.specs.declared.statement.Statement.{Statement}
@@ -19,9 +19,9 @@ use Rattle.vec_sql.specs.declared.given.GivenTerm.{GivenTerm}
 use Rattle.vec_sql.specs.declared.given.GivenTest.{GivenTest}
 use Rattle.vec_sql.specs.declared.given.GivenStatement.{GivenStatement}
 use Rattle.vec_sql.specs.declared.given.GivenStatement.TheVariants as statements
-use Rattle.vec_sql.specs.Givens.{Concern, concerns_of, group_concerns, Use, uses_of, in_test, in_limit}
-use Rattle.vec_sql.specs.Reads.{IsFine, IsFirstBad, IsTaken, Means, rule_fault}
-use Rattle.vec_sql.specs.Statements.{statement}
+use Rattle.vec_sql.specs.GivenStatements.{Concern, concerns_of, group_concerns, Use, uses_of, in_test, in_limit}
+use Rattle.vec_sql.specs.StatementReading.{IsFine, IsFirstBad, IsTaken, Means, rule_fault}
+use Rattle.vec_sql.specs.StatementGrammar.{statement}
 
 -- the text is not of the grammar, and the refusal is the one for its failing token
 abbrev pub FailsGrammar : List ℕ → Refusal → Type 0
@@ -73,16 +73,16 @@ abbrev pub ordered_concerns : GivenStatement → List Concern
 ordered_concerns (statements.Insert table names groups) = flat_map (group_concerns (length names)) groups
 ordered_concerns (statements.Update table sets terms) = set_concerns sets ++ term_concerns terms
 ordered_concerns (statements.Delete table terms) = term_concerns terms
-ordered_concerns (statements.Select select) = term_concerns select.wanted ++ limit_concerns select.limit
-ordered_concerns (statements.Explain select) = term_concerns select.wanted ++ limit_concerns select.limit
+ordered_concerns (statements.Select select) = term_concerns select.where_terms ++ limit_concerns select.limit
+ordered_concerns (statements.Explain select) = term_concerns select.where_terms ++ limit_concerns select.limit
 ordered_concerns other = []
 
 abbrev pub ordered_uses : GivenStatement → List Use
 ordered_uses (statements.Insert table names groups) = group_uses groups
 ordered_uses (statements.Update table sets terms) = set_uses sets ++ term_uses terms
 ordered_uses (statements.Delete table terms) = term_uses terms
-ordered_uses (statements.Select select) = term_uses select.wanted ++ limit_uses select.limit
-ordered_uses (statements.Explain select) = term_uses select.wanted ++ limit_uses select.limit
+ordered_uses (statements.Select select) = term_uses select.where_terms ++ limit_uses select.limit
+ordered_uses (statements.Explain select) = term_uses select.where_terms ++ limit_uses select.limit
 ordered_uses other = []
 
 -- what is made of a statement, of which the columns may break a rule

@@ -5,7 +5,7 @@ use Rattle.vec_base.specs.declared.value.Op.{Op}
 use Rattle.vec_base.specs.declared.value.Op.TheVariants.{Eq, Ne, Lt, Le, Gt, Ge}
 use Rattle.vec_base.specs.declared.value.Value.{Value}
 use Rattle.vec_literal.specs.ValueTexts.{value_text}
-use Rattle.row_model.specs.Canonical.{canonical_columns}
+use Rattle.row_model.specs.CanonicalColumns.{canonical_columns}
 use Rattle.row_model.specs.declared.statement.Assign.{Assign}
 use Rattle.row_model.specs.declared.statement.Constraint.{Constraint}
 use Rattle.row_model.specs.declared.statement.Delete.{Delete as DeleteRows}
@@ -87,7 +87,7 @@ limit_text (Some value) = codes " LIMIT " ++ value_text value
 abbrev pub select_text : SelectRows → List ℕ
 select_text select =
     codes "SELECT " ++ items_text select.items ++ codes " FROM " ++ select.table
-    ++ where_text select.wanted ++ order_text select.order ++ limit_text select.limit
+    ++ where_text select.where_terms ++ order_text select.order ++ limit_text select.limit
 
 -- ---- statements
 
@@ -97,10 +97,10 @@ insert_text insert =
     ++ codes ") VALUES " ++ listed group_text insert.rows
 
 abbrev pub update_text : UpdateRows → List ℕ
-update_text update = codes "UPDATE " ++ update.table ++ codes " SET " ++ listed assign_text update.sets ++ where_text update.wanted
+update_text update = codes "UPDATE " ++ update.table ++ codes " SET " ++ listed assign_text update.sets ++ where_text update.where_terms
 
 abbrev pub delete_text : DeleteRows → List ℕ
-delete_text delete = codes "DELETE FROM " ++ delete.table ++ where_text delete.wanted
+delete_text delete = codes "DELETE FROM " ++ delete.table ++ where_text delete.where_terms
 
 abbrev pub begin_text : Bool → List ℕ
 begin_text false = codes "BEGIN"

@@ -1,0 +1,2 @@
+pub mod ReaderResults
+pub mod Reading

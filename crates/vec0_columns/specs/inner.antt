@@ -1,0 +1,4 @@
+pub mod CanonicalLexemes
+pub mod CanonicalParts
+pub mod FactoredColumns
+pub mod NarrowedNumbers

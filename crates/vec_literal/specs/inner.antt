@@ -1,0 +1,2 @@
+pub mod Int8Reading
+pub mod Stretches

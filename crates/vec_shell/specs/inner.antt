@@ -1,0 +1,5 @@
+pub mod LoopRuns
+pub mod Progress
+pub mod Puts
+pub mod Quotes
+pub mod ShellParts

@@ -1,0 +1,5 @@
+pub mod FactoredStatements
+pub mod HeldStatements
+pub mod ParameterNotes
+pub mod PartMeanings
+pub mod WellFormedGivens
