@@ -12,7 +12,7 @@ use crate::{Column, Delete, Insert, Items, Place, Select, Update};
 use vec_base::{Refusal, Txt, Value};
 
 /// The refusal of an INSERT into a table of these columns, if there is one.
-pub(crate) fn check_insert(columns: &[Column], insert: &Insert) -> Option<Refusal>
+pub fn check_insert(columns: &[Column], insert: &Insert) -> Option<Refusal>
     requires narrow { length columns.now < 255 }
     ensures { result ≡ check_insert columns.now insert.now }
 {
@@ -32,7 +32,7 @@ fn index_after(count: usize) -> u16
 }
 
 /// The refusal of an UPDATE of a table of these columns, if there is one.
-pub(crate) fn check_update(columns: &[Column], update: &Update) -> Option<Refusal>
+pub fn check_update(columns: &[Column], update: &Update) -> Option<Refusal>
     requires narrow { length columns.now < 255 }
     ensures { result ≡ check_update columns.now update.now }
 {
@@ -44,7 +44,7 @@ pub(crate) fn check_update(columns: &[Column], update: &Update) -> Option<Refusa
 }
 
 /// The refusal of a DELETE from a table of these columns, if there is one.
-pub(crate) fn check_delete(columns: &[Column], delete: &Delete) -> Option<Refusal>
+pub fn check_delete(columns: &[Column], delete: &Delete) -> Option<Refusal>
     requires narrow { length columns.now < 255 }
     ensures { result ≡ check_delete columns.now delete.now }
 {
@@ -123,7 +123,7 @@ fn note_limit(worst: Option<Refusal>, nearest: bool, limit: &Option<Value>) -> O
 }
 
 /// The refusal of a SELECT from a table of these columns, if there is one.
-pub(crate) fn check_select(columns: &[Column], select: &Select) -> Option<Refusal>
+pub fn check_select(columns: &[Column], select: &Select) -> Option<Refusal>
     requires narrow { length columns.now < 255 }
     ensures { result ≡ check_select columns.now select.now }
 {

@@ -8,7 +8,7 @@ use crate::{Column, Kind, Place};
 use vec_base::Txt;
 
 /// Whether two names are the same.
-pub(crate) fn is_same_name(a: &Txt, b: &Txt) -> bool
+pub fn is_same_name(a: &Txt, b: &Txt) -> bool
     ensures { result ≡ bytes_eq a.now b.now }
 {
     a.as_text() == b.as_text()
@@ -35,7 +35,7 @@ fn declared(columns: &[Column], name: &Txt) -> Place
 }
 
 /// Whether a text key is declared.
-pub(crate) fn has_text_key(columns: &[Column]) -> bool
+pub fn has_text_key(columns: &[Column]) -> bool
     ensures { result ≡ has_text_key columns.now }
 {
     columns
@@ -45,7 +45,7 @@ pub(crate) fn has_text_key(columns: &[Column]) -> bool
 
 impl Place {
     /// What a name means.
-    pub(crate) fn of(columns: &[Column], name: &Txt) -> Place
+    pub fn of(columns: &[Column], name: &Txt) -> Place
         requires narrow { length columns.now < 255 }
         ensures { result ≡ place_of columns.now name.now }
     {
@@ -100,7 +100,7 @@ impl Place {
     }
 
     /// Whether it is `k`.
-    pub(crate) fn is_count(self) -> bool
+    pub fn is_count(self) -> bool
         ensures { result ≡ is_count self }
     {
         matches!(self, Place::Count)
@@ -112,7 +112,7 @@ impl Place {
         matches!(self, Place::Distance)
     }
 
-    pub(crate) fn is_rowid_or_key(self) -> bool
+    pub fn is_rowid_or_key(self) -> bool
         ensures { result ≡ is_rowid_or_key self }
     {
         matches!(

@@ -2,7 +2,8 @@
 use crate::scripts::ROWS;
 use crate::tests::{Setting, ran, whole};
 use crate::transcripts::{COLUMNS, FORMS, SENTENCES};
-use row_model::{PlainEngine, Reply, Request};
+use plain_engine::PlainEngine;
+use row_model::{Reply, Request};
 use std::alloc::Global;
 use std::test::Fail;
 use vec_base::{List, Refusal};

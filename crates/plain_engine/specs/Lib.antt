@@ -1,0 +1,2 @@
+pub mod DirectRequests
+mod inner

@@ -1,0 +1,5 @@
+pub mod AutoCommit
+pub mod ByteTotals
+pub mod OneValidity
+pub mod OrderedTables
+pub mod TablePlaces
