@@ -5,8 +5,7 @@ ghost use Rattle.row_model.specs.declared.row.Named.{Named as NamedOf};
 ghost use Rattle.row_model.specs.Change.{add_table, free_number, table_named};
 ghost use Rattle.plain_engine.specs.inner.TablePlaces.{IsTable, IsTableAt};
 
-use row_model::is_same_name;
-use row_model::{Named, Table};
+use row_model::{Named, Table, is_same_name};
 use vec_base::Txt;
 
 /// Where the table of the name stands.

@@ -85,10 +85,10 @@ fn execute_direct(state: &mut State, alloc: Global, statement: Statement) -> Rep
     match statement {
         Statement::Create(name, schema) => create(state, alloc, name, schema),
         Statement::Drop(name) => drop_table(state, &name),
-        Statement::Insert(insert) => insert(state, alloc, &insert),
-        Statement::Update(update) => update(state, alloc, &update),
-        Statement::Delete(delete) => delete(state, alloc, &delete),
-        Statement::Select(select) => select(state, alloc, &select),
+        Statement::Insert(rows) => insert(state, alloc, &rows),
+        Statement::Update(rows) => update(state, alloc, &rows),
+        Statement::Delete(rows) => delete(state, alloc, &rows),
+        Statement::Select(rows) => select(state, alloc, &rows),
         _ => Reply::Refused(Refusal::WantOfMemory),
     }
 }

@@ -14,14 +14,13 @@ ghost use Rattle.row_model.specs.Valid.{IsValidCatalog, IsValidTable};
 
 use crate::answer::answer;
 use crate::catalog::{find_table, free_number, number_place, table_at};
-use row_model::{check_delete, check_insert, check_select, check_update};
-use row_model::is_nearest;
 use crate::grow::{Grown, grow};
 use crate::insert::over;
 use crate::totals::Totals;
 use crate::update::{kept, met_count, update_refusal, updated};
 use row_model::{
     Column, Delete, Insert, Named, Place, Reply, Row, Schema, Select, State, Table, Update,
+    check_delete, check_insert, check_select, check_update, is_nearest,
 };
 use std::alloc::Global;
 use vec_base::{List, Memory, Refusal, Txt};
@@ -105,7 +104,11 @@ fn update_all(
 {
     let columns = table.schema.columns.as_slice();
     let rows = updated(alloc, columns, update, table.rows.as_slice())?;
-    let count = met_count(columns, update.where_terms.as_slice(), table.rows.as_slice());
+    let count = met_count(
+        columns,
+        update.where_terms.as_slice(),
+        table.rows.as_slice(),
+    );
     let totals = Totals::beside(tables, &update.table, rows.as_slice());
     if let Some(refusal) = update_refusal(totals, count, update) {
         return Ok(Err(refusal));
@@ -124,7 +127,11 @@ fn delete_all(alloc: Global, table: &Table, delete: &Delete) -> Result<Edited, M
 {
     let columns = table.schema.columns.as_slice();
     let rows = kept(alloc, columns, delete, table.rows.as_slice())?;
-    let count = met_count(columns, delete.where_terms.as_slice(), table.rows.as_slice());
+    let count = met_count(
+        columns,
+        delete.where_terms.as_slice(),
+        table.rows.as_slice(),
+    );
     let table = with_rows(alloc, table, rows)?;
     Ok(Edited {
         table,
@@ -297,9 +304,7 @@ pub(crate) fn delete(state: &mut State, alloc: Global, delete: &Delete) -> Reply
     }
     let at = found.at;
     match delete_all(alloc, found.table, delete) {
-        Ok(edited) => {
-            commit_table(state, alloc, at, edited.table, Reply::Changed(edited.count))
-        }
+        Ok(edited) => { commit_table(state, alloc, at, edited.table, Reply::Changed(edited.count)) }
         Err(Memory) => Reply::Refused(Refusal::WantOfMemory),
     }
 }

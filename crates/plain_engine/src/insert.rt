@@ -8,9 +8,8 @@ ghost use Rattle.row_model.specs.Limits.{over};
 ghost use Rattle.row_model.specs.Lists.{first};
 ghost use Rattle.row_model.specs.Rows.{has_rowid, is_rising, with_row};
 
-use row_model::{has_text_key, is_same_name};
 use crate::totals::side_bytes;
-use row_model::{Column, Kind, Place, Row};
+use row_model::{Column, Kind, Place, Row, has_text_key, is_same_name};
 use std::alloc::Global;
 use vec_base::{List, Memory, Refusal, Txt, Value};
 

@@ -8,8 +8,8 @@ ghost use Rattle.row_model.specs.Rows.{is_rising};
 ghost use Rattle.row_model.specs.Values.{value_at};
 
 use crate::meet::meets_all;
-use row_model::{Column, Constraint, Kind, Metric, Place, Row, Test};
 use distance_kernels::{hamming, l1, l2_squared};
+use row_model::{Column, Constraint, Kind, Metric, Place, Row, Test};
 use std::alloc::Global;
 use std::marker::Model;
 use vec_base::{Memory, Value};

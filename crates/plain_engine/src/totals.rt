@@ -6,8 +6,7 @@ ghost use Rattle.row_model.specs.Rows.{with_row};
 ghost use Rattle.plain_engine.specs.inner.ByteTotals.{capped, total_beside};
 ghost use Rattle.row_model.specs.Values.{row_side_bytes, row_vector_bytes, side_bytes, vector_bytes};
 
-use row_model::is_same_name;
-use row_model::{Named, Row};
+use row_model::{Named, Row, is_same_name};
 use vec_base::{Txt, Value};
 
 /// Bytes of all tables: of vectors, and of texts and blobs. The greatest number stands for every greater one too.
