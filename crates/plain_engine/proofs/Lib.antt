@@ -3,6 +3,7 @@ pub mod AutoCommitSelects
 pub mod ExecuteLaws
 pub mod InsertLaws
 pub mod NearLaws
+pub mod ScanLaws
 pub mod TableLaws
 pub mod TextKeyLaws
 pub mod TopLaws

@@ -13,11 +13,12 @@ use Rattle.std.specs.Option.{option_or}
 use Rattle.row_model.specs.declared.row.Table.{Table}
 use Rattle.row_model.specs.declared.schema.Place.{Place}
 use Rattle.row_model.specs.Lists.{first, when}
-use Rattle.row_model.specs.Change.{assigned, given_rowid, larger, last_number, new_row, row_of, spent, taken_rowid}
+use Rattle.row_model.specs.Change.{assigned, given_rowid, larger, new_row, row_of, spent, taken_rowid}
 use Rattle.row_model.specs.Rows.{has_rowid, with_row, is_rising}
 use Rattle.plain_engine.specs.inner.OrderedTables.{IsOrdered}
 use Rattle.row_model.specs.Valid.{is_top}
 use Rattle.row_model.proofs.RowLaws.{is_rising-with_row}
+use Rattle.vec_base.specs.declared.limits.TheConstants.{LAST_ROWID}
 
 -- ---- a test that all rows pass
 
@@ -72,7 +73,7 @@ no_rowid_above top new (x ∷ xs) l topped =
 
 -- ---- the next rowid
 
-next_above : (top : ℤ) → int_lt top last_number ≡ true → int_lt top (assigned top None) ≡ true
+next_above : (top : ℤ) → int_lt top LAST_ROWID ≡ true → int_lt top (assigned top None) ≡ true
 next_above top h = rw h (grind (arith, ints))
 
 when_none : (b : Bool) (r : Refusal) → when (not b) r ≡ [] → b ≡ true
@@ -81,7 +82,7 @@ when_none false r h = absurd cc
 
 -- where rowids are not spent, the next one is above the top
 pub next_is_above : (top : ℤ) → spent top None ≡ [] → int_lt top (assigned top None) ≡ true
-next_is_above top h = next_above top (when_none (int_lt top last_number) RowidsSpent h)
+next_is_above top h = next_above top (when_none (int_lt top LAST_ROWID) RowidsSpent h)
 
 insert_last : (row : Row) (rows : List Row) → insert rows (length rows) row ≡ rows ++ row ∷ []
 insert_last row [] = refl

@@ -7,6 +7,8 @@ ghost use Rattle.row_model.specs.ColumnNames.{place_of, is_count};
 ghost use Rattle.row_model.specs.inner.ComparableVectors.{IsComparable};
 ghost use Rattle.row_model.specs.Rows.{is_rising};
 ghost use Rattle.row_model.specs.Valid.{IsValidTable};
+ghost use Rattle.vec_base.specs.declared.limits.TheConstants.{MOST_REPLY_ROWS};
+ghost use Rattle.row_model.specs.declared.schema.TheConstants.{MOST_COLUMNS};
 
 use crate::items::{item_places, project};
 use crate::meet::meets_all;
@@ -47,7 +49,7 @@ fn count_in(test: &Test) -> usize
 
 /// The number of nearest rows: that of the first term on `k`, or else that of LIMIT.
 fn count_wanted(columns: &[Column], terms: &[Constraint], limit: &Option<Value>) -> usize
-    requires narrow { length columns.now < 255 }
+    requires narrow { length columns.now ≤ MOST_COLUMNS }
     ensures { result ≡ count_wanted columns.now terms.now limit.now }
 {
     let Some((term, more)) = terms.split_first() else {
@@ -68,7 +70,7 @@ fn scanned<'a>(
     most: usize,
     rows: &'a [Row],
 ) -> Result<Vec<Near<'a>>, Memory>
-    requires narrow { length columns.now < 255 }
+    requires narrow { length columns.now ≤ MOST_COLUMNS }
     ensures { IfOk result (λ nears. nears.items ≡ map at_zero (take most (met columns.now terms.now rows.now))) }
 {
     let mut nears = Vec::new(alloc);
@@ -90,7 +92,7 @@ fn limited<'a>(
     select: &Select,
     rows: &'a [Row],
 ) -> Result<Vec<Near<'a>>, Memory>
-    requires narrow { length columns.now < 255 }
+    requires narrow { length columns.now ≤ MOST_COLUMNS }
     ensures { IfOk result (λ nears. nears.items ≡ map at_zero (limited select.now.limit (met columns.now select.now.where_terms rows.now))) }
 {
     let terms = select.where_terms.as_slice();
@@ -107,16 +109,17 @@ fn chosen<'a>(
     select: &Select,
     rows: &'a [Row],
 ) -> Result<Vec<Near<'a>>, Memory>
-    requires narrow { length columns.now < 255 }
+    requires narrow { length columns.now ≤ MOST_COLUMNS }
     requires rising { is_rising rows.now ≡ true }
     requires comparable { (target : TargetValue) → target_of columns.now select.now.where_terms ≡ Some target → AllByRecursion (IsComparable target) rows.now }
+    requires few { (target : TargetValue) → target_of columns.now select.now.where_terms ≡ Some target → count_wanted columns.now select.now.where_terms select.now.limit ≤ MOST_REPLY_ROWS }
     ensures { IfOk result (λ nears. nears.items ≡ chosen (target_of columns.now select.now.where_terms) columns.now select.now (met columns.now select.now.where_terms rows.now)) }
 {
     let terms = select.where_terms.as_slice();
     match target_of(columns, terms) {
         Some(target) => {
             let count = count_wanted(columns, terms, &select.limit);
-            nearest(alloc, columns, terms, &target, count, rows)
+            nearest(alloc, columns, terms, &target, count as u16, rows)
         }
         None => limited(alloc, columns, select, rows),
     }

@@ -4,6 +4,7 @@ ghost use Rattle.std.specs.List.{insert};
 ghost use Rattle.row_model.specs.declared.row.Named.{Named as NamedOf};
 ghost use Rattle.row_model.specs.Change.{add_table, free_number, table_named};
 ghost use Rattle.plain_engine.specs.inner.TablePlaces.{IsTable, IsTableAt};
+ghost use Rattle.vec_base.specs.declared.limits.TheConstants.{MOST_TABLES};
 
 use row_model::{Named, Table, is_same_name};
 use vec_base::Txt;
@@ -45,7 +46,7 @@ pub(crate) fn find_table<'a>(tables: &'a [Named], name: &Txt) -> Option<FoundTab
 
 /// The least number from `number` on that no table has.
 pub(crate) fn free_number(number: u32, tables: &[Named]) -> u32
-    requires { number + length tables.now ≤ 65 }
+    requires { number + length tables.now ≤ MOST_TABLES + 1 }
     ensures { result ≡ free_number number tables.now }
 {
     match tables.split_first() {

@@ -13,8 +13,9 @@ ghost use Rattle.row_model.specs.Valid.{IsValidCatalog, IsValidState};
 ghost use Rattle.row_model.specs.WellFormed.{IsWellFormedRequest};
 
 use crate::execute::{create, delete, drop_table, insert, select, update};
-use crate::insert::over;
-use row_model::{Catalog, Phase, Reply, Request, Session, State, Statement};
+use row_model::{
+    Catalog, Phase, Reply, Request, Session, State, Statement, over_session_ids, over_sessions,
+};
 use std::alloc::Global;
 use std::marker::Model;
 use vec_base::{List, Memory, Refusal};
@@ -49,11 +50,8 @@ fn is_open(sessions: &[Session], id: u32) -> bool
 pub(crate) fn one_session_more(sessions: &[Session], last_id: u32) -> Option<Refusal>
     ensures { result ≡ first (over_sessions (length sessions.now + 1) ++ over_session_ids (last_id + 1)) }
 {
-    over(6, 256, (sessions.len() as u64).saturating_add(1)).or(over(
-        9,
-        4_294_967_295,
-        u64::from(last_id) + 1,
-    ))
+    over_sessions((sessions.len() as u64).saturating_add(1))
+        .or(over_session_ids(u64::from(last_id) + 1))
 }
 
 /// Opens a session with the last id plus one.
@@ -63,9 +61,7 @@ fn open(state: &mut State, alloc: Global) -> Reply
     if let Some(refusal) = one_session_more(state.sessions.as_slice(), state.last_id) {
         return Reply::Refused(refusal);
     }
-    let Some(id) = state.last_id.checked_add(1) else {
-        return Reply::Refused(Refusal::WantOfMemory);
-    };
+    let id = state.last_id + 1;
     match state.sessions.push(new_session(alloc, id)) {
         Ok(()) => {
             state.last_id = id;
@@ -85,11 +81,11 @@ fn execute_direct(state: &mut State, alloc: Global, statement: Statement) -> Rep
     match statement {
         Statement::Create(name, schema) => create(state, alloc, name, schema),
         Statement::Drop(name) => drop_table(state, &name),
-        Statement::Insert(rows) => insert(state, alloc, &rows),
-        Statement::Update(rows) => update(state, alloc, &rows),
-        Statement::Delete(rows) => delete(state, alloc, &rows),
-        Statement::Select(rows) => select(state, alloc, &rows),
-        _ => Reply::Refused(Refusal::WantOfMemory),
+        Statement::Insert(statement) => insert(state, alloc, &statement),
+        Statement::Update(statement) => update(state, alloc, &statement),
+        Statement::Delete(statement) => delete(state, alloc, &statement),
+        Statement::Select(statement) => select(state, alloc, &statement),
+        _ => unreachable!(),
     }
 }
 
@@ -116,7 +112,7 @@ fn answer_in(state: &mut State, alloc: Global, request: Request) -> Reply
     match request {
         Request::OpenSession => open(state, alloc),
         Request::Execute(id, statement) => execute_in(state, alloc, id, statement),
-        _ => Reply::Refused(Refusal::WantOfMemory),
+        _ => unreachable!(),
     }
 }
 

@@ -1,5 +1,5 @@
 //! Statements where no session is in a transaction: each write commits at once.
-ghost use Rattle.std.specs.Prelude.{◌≡◌, ◌<◌, ◌+◌, ℕ, true, List as Seq, length, map, Ok as ok, Err as err, IfOk, IfErr};
+ghost use Rattle.std.specs.Prelude.{◌≡◌, ◌≤◌, ◌<◌, ◌+◌, ℕ, true, List as Seq, length, map, Ok as ok, Err as err, IfOk, IfErr};
 ghost use Rattle.row_model.specs.declared.row.Catalog.{Catalog as CatalogOf};
 ghost use Rattle.row_model.specs.declared.statement.Statement.TheVariants.{Create, Drop, Insert as InsertOf, Update as UpdateOf, Delete as DeleteOf, Select as SelectOf};
 ghost use Rattle.row_model.specs.declared.request.Reply.TheVariants.{Changed, Inserted};
@@ -11,30 +11,30 @@ ghost use Rattle.row_model.specs.Limits.{over_tables};
 ghost use Rattle.row_model.specs.Lists.{first};
 ghost use Rattle.row_model.specs.Step.{commits_spent, inserted_catalog, kept_catalog, too_many, updated_catalog, with_tables};
 ghost use Rattle.row_model.specs.Valid.{IsValidCatalog, IsValidTable};
+ghost use Rattle.row_model.specs.declared.schema.TheConstants.{MOST_COLUMNS};
 
 use crate::answer::answer;
 use crate::catalog::{find_table, free_number, number_place, table_at};
 use crate::grow::{Grown, grow};
-use crate::insert::over;
 use crate::totals::Totals;
 use crate::update::{kept, met_count, update_refusal, updated};
 use row_model::{
     Column, Delete, Insert, Named, Place, Reply, Row, Schema, Select, State, Table, Update,
-    check_delete, check_insert, check_select, check_update, is_nearest,
+    check_delete, check_insert, check_select, check_update, is_nearest, over_commits, over_tables,
 };
 use std::alloc::Global;
-use vec_base::{List, Memory, Refusal, Txt};
+use vec_base::{List, MOST_REPLY_ROWS, Memory, Refusal, Txt};
 
 /// The refusal of one table more.
 fn one_table_more(tables: &[Named]) -> Option<Refusal>
     ensures { result ≡ first (over_tables (length tables.now + 1)) }
 {
-    over(1, 64, (tables.len() as u64).saturating_add(1))
+    over_tables((tables.len() as u64).saturating_add(1))
 }
 
 /// What the names mean.
 fn places_of(alloc: Global, columns: &[Column], names: &[Txt]) -> Result<Vec<Place>, Memory>
-    requires narrow { length columns.now < 255 }
+    requires narrow { length columns.now ≤ MOST_COLUMNS }
     ensures { IfOk result (λ places. places.items ≡ map (place_of columns.now) names.now) }
 {
     let mut places = Vec::with_capacity(alloc, names.len())?;
@@ -143,7 +143,7 @@ fn delete_all(alloc: Global, table: &Table, delete: &Delete) -> Result<Edited, M
 fn too_many(select: &Select, count: usize) -> Option<Refusal>
     ensures { result ≡ first (too_many select.now count) }
 {
-    if !is_nearest(select.where_terms.as_slice()) && count > 4096 {
+    if !is_nearest(select.where_terms.as_slice()) && count > MOST_REPLY_ROWS {
         Some(Refusal::TooManyRows(count as u64))
     } else {
         None
@@ -154,11 +154,7 @@ fn too_many(select: &Select, count: usize) -> Option<Refusal>
 pub(crate) fn spent_commits(state: &State) -> Option<Refusal>
     ensures { result ≡ first (commits_spent state.now) }
 {
-    over(
-        11,
-        9_223_372_036_854_775_807,
-        state.commits.saturating_add(1),
-    )
+    over_commits(state.commits.saturating_add(1))
 }
 
 /// Makes an empty table.

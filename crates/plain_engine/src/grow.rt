@@ -10,11 +10,11 @@ ghost use Rattle.plain_engine.specs.inner.ByteTotals.{total_beside};
 ghost use Rattle.plain_engine.specs.inner.OrderedTables.{IsOrdered};
 ghost use Rattle.row_model.specs.Valid.{is_top};
 
-use crate::insert::{free_place, given_rowid, long_value, over, row_of, taken_id};
+use crate::insert::{free_place, given_rowid, long_value, row_of, taken_id};
 use crate::totals::{Totals, row_side_bytes, row_vector_bytes};
-use row_model::{Place, Row, Table};
+use row_model::{Place, Row, Table, over_rows, over_sides, over_vectors};
 use std::alloc::Global;
-use vec_base::{List, Memory, Refusal, Value};
+use vec_base::{LAST_ROWID, List, Memory, Refusal, Value};
 
 /// Where a new row goes in among the rows, or the refusal of a rowid that is there. A rowid that is not given is above
 /// all others.
@@ -42,7 +42,7 @@ fn spent(top: &i64, rowid: &Option<i64>) -> Option<Refusal>
     match rowid {
         Some(_) => None,
         None => {
-            if *top < i64::MAX {
+            if *top < LAST_ROWID {
                 None
             } else {
                 Some(Refusal::RowidsSpent)
@@ -57,7 +57,7 @@ fn assigned(top: &i64, rowid: &Option<i64>) -> i64
 {
     match rowid {
         Some(rowid) => *rowid,
-        None => { if *top < i64::MAX { *top + 1 } else { *top } }
+        None => { if *top < LAST_ROWID { *top + 1 } else { *top } }
     }
 }
 
@@ -75,9 +75,9 @@ pub(crate) fn room_refusal(totals: Totals, count: usize, row: &Row) -> Option<Re
     let rows = (count as u64).saturating_add(1);
     let vectors = totals.vectors.saturating_add(row_vector_bytes(row));
     let sides = totals.sides.saturating_add(row_side_bytes(row));
-    over(2, 200_000, rows)
-        .or(over(4, 268_435_456, vectors))
-        .or(over(5, 268_435_456, sides))
+    over_rows(rows)
+        .or(over_vectors(vectors))
+        .or(over_sides(sides))
 }
 
 /// The row that a group of values makes in the table; the rowid is the one that the group gives, if it gives one.

@@ -4,32 +4,20 @@ ghost use Rattle.std.specs.List.{insert};
 ghost use Rattle.row_model.specs.declared.row.Row.{Row as RowOf};
 ghost use Rattle.row_model.specs.Change.{Elsewhere, assigned, blank, given_rowid, grown, group_refusals, keyed, larger, last_rowid, long_values, new_row, put_all, put_at, room_refusals, row_of, rowid_at, same_id, is_same_text, is_the_text, spent, taken_id, taken_rowid, with_new_row};
 ghost use Rattle.row_model.specs.ColumnNames.{is_text_key};
-ghost use Rattle.row_model.specs.Limits.{over};
 ghost use Rattle.row_model.specs.Lists.{first};
 ghost use Rattle.row_model.specs.Rows.{has_rowid, is_rising, with_row};
 
 use crate::totals::side_bytes;
-use row_model::{Column, Kind, Place, Row, has_text_key, is_same_name};
+use row_model::{Column, Kind, Place, Row, has_text_key, is_same_name, over_value};
 use std::alloc::Global;
 use vec_base::{List, Memory, Refusal, Txt, Value};
-
-/// The refusal of a count that is over its limit.
-pub(crate) fn over(limit: u8, most: u64, count: u64) -> Option<Refusal>
-    ensures { result ≡ first (over limit most count) }
-{
-    if most < count {
-        Some(Refusal::Full(limit, count))
-    } else {
-        None
-    }
-}
 
 /// The first value that is too long.
 pub(crate) fn long_value(values: &[Value]) -> Option<Refusal>
     ensures { result ≡ first (long_values values.now) }
 {
     let (value, more) = values.split_first()?;
-    over(3, 1_048_576, side_bytes(value)).or(long_value(more))
+    over_value(side_bytes(value)).or(long_value(more))
 }
 
 /// The rowid that a value gives at its place.

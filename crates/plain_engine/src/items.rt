@@ -3,29 +3,23 @@ ghost use Rattle.std.specs.Prelude.{◌≡◌, ◌<◌, ◌≤◌, ◌+◌, ◌-
 ghost use Rattle.vec_base.specs.declared.value.Value.TheVariants.{Null};
 ghost use Rattle.row_model.specs.Answer.{item, items_of};
 ghost use Rattle.row_model.specs.ColumnNames.{key_place, other_places, item_places, place_of};
-ghost use Rattle.row_model.specs.Schemas.{is_key};
 ghost use Rattle.row_model.specs.Values.{value_at, column_value};
+ghost use Rattle.row_model.specs.declared.schema.TheConstants.{MOST_COLUMNS};
 
 use crate::nearest::Near;
-use row_model::{Column, Items, Kind, Place, Row};
+use row_model::{Column, Items, Kind, Place, Role, Row};
 use std::alloc::Global;
 use vec_base::{List, Memory, Txt, Value};
 
-fn is_key(kind: Kind) -> bool
-    ensures { result ≡ is_key kind }
-{
-    matches!(kind, Kind::IntKey | Kind::TextKey)
-}
-
 /// The key's place, or that of the rowid where there is no key; the first of these columns has this number.
 fn key_place(number: u8, columns: &[Column]) -> Place
-    requires numbered { number + length columns.now < 256 }
+    requires numbered { number + length columns.now ≤ MOST_COLUMNS + 1 }
     ensures { result ≡ key_place number columns.now }
 {
     let Some((column, more)) = columns.split_first() else {
         return Place::Rowid;
     };
-    if is_key(column.kind) {
+    if column.kind.has_role(Role::Key) {
         Place::Declared(number, column.kind)
     } else {
         key_place(number + 1, more)
@@ -34,13 +28,13 @@ fn key_place(number: u8, columns: &[Column]) -> Place
 
 /// The places of all columns: the key or the rowid, and then the others in their order.
 fn all_places(alloc: Global, columns: &[Column]) -> Result<Vec<Place>, Memory>
-    requires narrow { length columns.now < 255 }
+    requires narrow { length columns.now ≤ MOST_COLUMNS }
     ensures { IfOk result (λ places. places.items ≡ key_place 1 columns.now ∷ other_places 1 columns.now) }
 {
     let mut places = Vec::new(alloc);
     places.push(key_place(1, columns))?;
     for (index, column) in columns.iter().enumerate() {
-        if !is_key(column.kind) {
+        if !column.kind.has_role(Role::Key) {
             places.push(Place::Declared(index as u8 + 1, column.kind))?;
         }
     }
@@ -49,7 +43,7 @@ fn all_places(alloc: Global, columns: &[Column]) -> Result<Vec<Place>, Memory>
 
 /// The places of names.
 fn named_places(alloc: Global, columns: &[Column], names: &[Txt]) -> Result<Vec<Place>, Memory>
-    requires narrow { length columns.now < 255 }
+    requires narrow { length columns.now ≤ MOST_COLUMNS }
     ensures { IfOk result (λ places. places.items ≡ map (place_of columns.now) names.now) }
 {
     let mut places = Vec::new(alloc);
@@ -65,7 +59,7 @@ pub(crate) fn item_places(
     columns: &[Column],
     items: &Items,
 ) -> Result<Vec<Place>, Memory>
-    requires narrow { length columns.now < 255 }
+    requires narrow { length columns.now ≤ MOST_COLUMNS }
     ensures { IfOk result (λ places. places.items ≡ item_places columns.now items.now) }
 {
     match items {

@@ -1,91 +1,29 @@
-//! How values compare, and which rows meet terms.
+//! Which rows meet terms.
 ghost use Rattle.std.specs.Prelude.{◌≡◌, ◌<◌, ◌≤◌, ◌-◌, length, slice_index_or, if◌then◌else◌};
 ghost use Rattle.std.specs.List.{list_any};
-ghost use Rattle.std.specs.Ordering.{nat_cmp};
 ghost use Rattle.vec_base.specs.declared.value.Op.TheVariants.{Eq};
 ghost use Rattle.vec_base.specs.declared.value.Value.TheVariants.{Null, Int};
-ghost use Rattle.row_model.specs.Values.{int_to, text_to, blob_to, compared, holds, holds_of, stands, passes, value_at, column_value, meets, meets_all};
+ghost use Rattle.vec_base.specs.Comparison.{satisfies};
+ghost use Rattle.row_model.specs.Values.{passes, value_at, column_value, meets, meets_all};
+ghost use Rattle.row_model.specs.declared.schema.TheConstants.{MOST_COLUMNS};
 
 use row_model::{Column, Constraint, Kind, Place, Row, Test};
-use std::cmp::Ordering;
-use vec_base::{Bytes, Op, Txt, Value};
-
-fn int_to(number: i64, value: &Value) -> Option<Ordering>
-    ensures { result ≡ int_to number value.now }
-{
-    match value {
-        Value::Int(other) => Some(number.cmp(other)),
-        _ => None,
-    }
-}
-
-fn text_to(text: &Txt, value: &Value) -> Option<Ordering>
-    ensures { result ≡ text_to text.now value.now }
-{
-    match value {
-        Value::Text(other) => Some(text.as_text().cmp(other.as_text())),
-        _ => None,
-    }
-}
-
-fn blob_to(bytes: &Bytes, value: &Value) -> Option<Ordering>
-    ensures { result ≡ blob_to bytes.now value.now }
-{
-    match value {
-        Value::Blob(other) => Some(bytes.as_slice().cmp(other.as_slice())),
-        _ => None,
-    }
-}
-
-/// How a value stands to a constant, if they compare.
-fn compared(value: &Value, constant: &Value) -> Option<Ordering>
-    ensures { result ≡ compared value.now constant.now }
-{
-    match value {
-        Value::Int(number) => int_to(*number, constant),
-        Value::Text(text) => text_to(text, constant),
-        Value::Blob(bytes) => blob_to(bytes, constant),
-        _ => None,
-    }
-}
-
-fn holds(op: Op, order: Ordering) -> bool
-    ensures { result ≡ holds op order }
-{
-    match op {
-        Op::Eq => order.is_eq(),
-        Op::Ne => order.is_ne(),
-        Op::Lt => order.is_lt(),
-        Op::Le => order.is_le(),
-        Op::Gt => order.is_gt(),
-        Op::Ge => order.is_ge(),
-    }
-}
-
-/// Whether the value stands to the constant as the operator says.
-fn stands(op: Op, value: &Value, constant: &Value) -> bool
-    ensures { result ≡ stands op value.now constant.now }
-{
-    match compared(value, constant) {
-        Some(order) => holds(op, order),
-        None => false,
-    }
-}
+use vec_base::{Op, Value};
 
 /// Whether the value is one of the constants.
 fn is_member(value: &Value, constants: &[Value]) -> bool
-    ensures { result ≡ list_any (stands Eq value.now) constants.now }
+    ensures { result ≡ list_any (satisfies Eq value.now) constants.now }
 {
     constants
         .iter()
-        .any(|constant| stands(Op::Eq, value, constant))
+        .any(|constant| value.satisfies(Op::Eq, constant))
 }
 
 fn passes(test: &Test, value: &Value) -> bool
     ensures { result ≡ passes test.now value.now }
 {
     match test {
-        Test::Compare(op, constant) => stands(*op, value, constant),
+        Test::Compare(op, constant) => value.satisfies(*op, constant),
         Test::Member(constants) => is_member(value, constants.as_slice()),
         Test::Match(_) => true,
     }
@@ -126,7 +64,7 @@ fn passes_at(test: &Test, place: Place, row: &Row) -> bool
 }
 
 fn meets(columns: &[Column], row: &Row, term: &Constraint) -> bool
-    requires narrow { length columns.now < 255 }
+    requires narrow { length columns.now ≤ MOST_COLUMNS }
     ensures { result ≡ meets columns.now row.now term.now }
 {
     let place = Place::of(columns, &term.column);
@@ -135,7 +73,7 @@ fn meets(columns: &[Column], row: &Row, term: &Constraint) -> bool
 
 /// Whether the row meets all terms.
 pub(crate) fn meets_all(columns: &[Column], terms: &[Constraint], row: &Row) -> bool
-    requires narrow { length columns.now < 255 }
+    requires narrow { length columns.now ≤ MOST_COLUMNS }
     ensures { result ≡ meets_all columns.now terms.now row.now }
 {
     terms.iter().all(|term| meets(columns, row, term))

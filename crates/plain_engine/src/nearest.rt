@@ -1,17 +1,23 @@
 //! Rows by their distance from a vector.
-ghost use Rattle.std.specs.Prelude.{◌≡◌, ◌<◌, ◌≤◌, ◌-◌, ℕ, length, slice_index_or, IfOk, map, take, true};
-ghost use Rattle.std.specs.List.{insert, AllByRecursion};
-ghost use Rattle.vec_base.specs.Ranks.{placed, first_ranked, IsInOrder};
+ghost use Rattle.std.specs.Prelude.{◌≡◌, ◌<◌, ◌≤◌, length, IfOk, map, [], true};
+ghost use Rattle.std.specs.List.{list_all, AllByRecursion};
+ghost use Rattle.vec_base.specs.Ranks.{first_ranked};
+ghost use Rattle.vec_base.specs.inner.Offers.{offered};
+ghost use Rattle.topk_merge.specs.Hits.{is_before as is_hit_before};
+ghost use Rattle.plain_engine.specs.inner.RowHits.{hit_to, near_at, row_with};
 ghost use Rattle.row_model.specs.Answer.{Near as NearRow, Target as TargetValue, is_before, near_to, target_of, met, vector_of, distance_by, distance_in, distance_at};
 ghost use Rattle.row_model.specs.inner.ComparableVectors.{IsComparable};
-ghost use Rattle.row_model.specs.Rows.{is_rising};
+ghost use Rattle.row_model.specs.Rows.{has_rowid, is_rising};
 ghost use Rattle.row_model.specs.Values.{value_at};
+ghost use Rattle.row_model.specs.declared.schema.TheConstants.{MOST_COLUMNS};
+ghost use Rattle.vec_base.specs.declared.limits.TheConstants.{MOST_DIMENSIONS};
 
 use crate::meet::meets_all;
 use distance_kernels::{hamming, l1, l2_squared};
 use row_model::{Column, Constraint, Kind, Metric, Place, Row, Test};
 use std::alloc::Global;
 use std::marker::Model;
+use topk_merge::{Best, Hit};
 use vec_base::{Memory, Value};
 
 /// A row with its distance, which is 0 where none is asked for.
@@ -42,7 +48,7 @@ impl<'a> Model for Target<'a> {
 
 /// The first MATCH among the terms.
 pub(crate) fn target_of<'a>(columns: &[Column], terms: &'a [Constraint]) -> Option<Target<'a>>
-    requires narrow { length columns.now < 255 }
+    requires narrow { length columns.now ≤ MOST_COLUMNS }
     ensures { result ≡ target_of columns.now terms.now }
 {
     let Some((term, more)) = terms.split_first() else {
@@ -89,7 +95,7 @@ fn vector_at(place: Place, row: &Row) -> &[u8]
 
 fn distance_by(metric: Metric, a: &[u8], b: &[u8]) -> u32
     requires same_length { length a.now ≡ length b.now }
-    requires short { length a.now ≤ 8192 }
+    requires short { length a.now ≤ MOST_DIMENSIONS }
     ensures { result ≡ distance_by metric a.now b.now }
 {
     match metric {
@@ -101,7 +107,7 @@ fn distance_by(metric: Metric, a: &[u8], b: &[u8]) -> u32
 /// The distance of two vectors of a column.
 fn distance_in(kind: Kind, a: &[u8], b: &[u8]) -> u32
     requires same_length { length a.now ≡ length b.now }
-    requires short { length a.now ≤ 8192 }
+    requires short { length a.now ≤ MOST_DIMENSIONS }
     ensures { result ≡ distance_in kind a.now b.now }
 {
     match kind {
@@ -126,70 +132,65 @@ fn distance_at(target: &Target, row: &Row) -> u32
     }
 }
 
-impl<'a> Near<'a> {
-    /// The row at its distance from the target.
-    fn to(target: &Target, row: &'a Row) -> Near<'a>
-        requires comparable { IsComparable target.now row.now }
-        ensures { result ≡ near_to target.now row.now }
-    {
-        Near {
-            distance: distance_at(target, row),
-            row,
+/// The row's distance from the target, with its rowid.
+fn hit_to(target: &Target, row: &Row) -> Hit
+    requires comparable { IsComparable target.now row.now }
+    ensures { result ≡ hit_to target.now row.now }
+{
+    Hit {
+        distance: distance_at(target, row),
+        rowid: row.rowid,
+    }
+}
+
+/// The first k hits of the rows that meet the terms.
+fn best_hits(
+    alloc: Global,
+    columns: &[Column],
+    terms: &[Constraint],
+    target: &Target,
+    k: u16,
+    rows: &[Row],
+) -> Result<Best, Memory>
+    requires narrow { length columns.now ≤ MOST_COLUMNS }
+    requires comparable { AllByRecursion (IsComparable target.now) rows.now }
+    ensures { IfOk result (λ best. best.hits ≡ offered is_hit_before k [] (map (hit_to target.now) (met columns.now terms.now rows.now))) }
+{
+    let mut best = Best::with_room(alloc, k)?;
+    for row in rows {
+        if meets_all(columns, terms, row) {
+            best.offer(hit_to(target, row));
         }
     }
+    Ok(best)
+}
 
-    /// Whether it is before the other one: by distance, then by rowid.
-    fn is_before(&self, other: &Near) -> bool
-        ensures { result ≡ is_before self.now other.now }
-    {
-        self.distance
-            .cmp(&other.distance)
-            .then(self.row.rowid.cmp(&other.row.rowid))
-            .is_lt()
+/// The row of the rowid, which is there.
+fn row_with<'a>(rows: &'a [Row], rowid: &i64) -> &'a Row
+    requires rising { is_rising rows.now ≡ true }
+    requires there { has_rowid rowid.now rows.now ≡ true }
+    ensures { result.now ≡ row_with rowid.now rows.now }
+{
+    match rows.binary_search_by(|row| row.rowid.cmp(rowid)) {
+        Ok(at) => &rows[at],
+        Err(_) => unreachable!(),
     }
 }
 
-/// The place of the first row that this one is before, or the end.
-fn place(best: &[Near], near: &Near) -> usize
-    ensures at { insert best.now result near.now ≡ placed is_before near.now best.now }
-    ensures within { result ≤ length best.now }
+/// The rows of the hits, each at its hit's distance.
+fn rows_of<'a>(alloc: Global, hits: &[Hit], rows: &'a [Row]) -> Result<Vec<Near<'a>>, Memory>
+    requires rising { is_rising rows.now ≡ true }
+    requires there { list_all (λ hit. has_rowid hit.rowid rows.now) hits.now ≡ true }
+    ensures { IfOk result (λ nears. nears.items ≡ map (near_at rows.now) hits.now) }
 {
-    for (at, other) in best.iter().enumerate() {
-        if near.is_before(other) {
-            return at;
-        }
+    let mut nears = Vec::with_capacity(alloc, hits.len())?;
+    for hit in hits {
+        nears.push(Near {
+            distance: hit.distance,
+            row: row_with(rows, &hit.rowid),
+        })?;
     }
-    best.len()
-}
-
-/// Whether the row is before none of k rows, of which the last one is looked at alone.
-fn is_left_out(best: &[Near], k: usize, near: &Near) -> bool
-    requires ordered { IsInOrder is_before best.now }
-    requires fits { length best.now ≤ k }
-    ensures { result ≡ true → take k (placed is_before near.now best.now) ≡ best.now }
-{
-    if best.len() < k {
-        return false;
-    }
-    match best.last() {
-        Some(last) => !near.is_before(last),
-        None => true,
-    }
-}
-
-/// Keeps the first k of the rows in order and this one.
-fn offer<'a>(best: &mut Vec<Near<'a>>, k: usize, near: Near<'a>) -> Result<(), Memory>
-    requires ordered { IsInOrder is_before best.old.items }
-    requires fits { length best.old.items ≤ k }
-    ensures { IfOk result (λ _. best.new.items ≡ take k (placed is_before near.entry best.old.items)) }
-{
-    if is_left_out(best.as_slice(), k, &near) {
-        return Ok(());
-    }
-    let at = place(best.as_slice(), &near);
-    best.insert(at, near)?;
-    best.truncate(k);
-    Ok(())
+    Ok(nears)
 }
 
 /// Of the rows that meet the terms the k nearest to the target, in order.
@@ -198,19 +199,14 @@ pub(crate) fn nearest<'a>(
     columns: &[Column],
     terms: &[Constraint],
     target: &Target,
-    k: usize,
+    k: u16,
     rows: &'a [Row],
 ) -> Result<Vec<Near<'a>>, Memory>
-    requires narrow { length columns.now < 255 }
+    requires narrow { length columns.now ≤ MOST_COLUMNS }
     requires comparable { AllByRecursion (IsComparable target.now) rows.now }
     requires rising { is_rising rows.now ≡ true }
-    ensures { IfOk result (λ best. best.items ≡ first_ranked is_before k (map (near_to target.now) (met columns.now terms.now rows.now))) }
+    ensures { IfOk result (λ nears. nears.items ≡ first_ranked is_before k (map (near_to target.now) (met columns.now terms.now rows.now))) }
 {
-    let mut best = Vec::new(alloc);
-    for row in rows {
-        if meets_all(columns, terms, row) {
-            offer(&mut best, k, Near::to(target, row))?;
-        }
-    }
-    Ok(best)
+    let best = best_hits(alloc, columns, terms, target, k, rows)?;
+    rows_of(alloc, best.hits(), rows)
 }

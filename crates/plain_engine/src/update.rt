@@ -1,16 +1,17 @@
 //! The rows that UPDATE and DELETE leave.
-ghost use Rattle.std.specs.Prelude.{◌≡◌, ◌<◌, ◌+◌, true, false, if◌then◌else◌, length, map, IfOk};
+ghost use Rattle.std.specs.Prelude.{◌≡◌, ◌≤◌, ◌<◌, ◌+◌, true, false, if◌then◌else◌, length, map, IfOk};
 ghost use Rattle.row_model.specs.declared.row.Table.{Table as TableOf};
 ghost use Rattle.row_model.specs.Answer.{met};
 ghost use Rattle.row_model.specs.Change.{Elsewhere, kept, put_at, set_all, updated, updated_row, update_refusals, long_values, with_rows};
 ghost use Rattle.row_model.specs.Lists.{first};
 ghost use Rattle.plain_engine.specs.inner.ByteTotals.{total_beside};
 ghost use Rattle.row_model.specs.Values.{meets_all};
+ghost use Rattle.row_model.specs.declared.schema.TheConstants.{MOST_COLUMNS};
 
-use crate::insert::{over, put_at};
+use crate::insert::put_at;
 use crate::meet::meets_all;
 use crate::totals::{Totals, side_bytes};
-use row_model::{Assign, Column, Constraint, Delete, Place, Row, Update};
+use row_model::{Assign, Column, Constraint, Delete, Place, Row, Update, over_sides, over_value, over_vectors};
 use std::alloc::Global;
 use vec_base::{List, Memory, Refusal, Value};
 
@@ -21,7 +22,7 @@ fn set_all(
     sets: &[Assign],
     values: &mut [Value],
 ) -> Result<(), Memory>
-    requires narrow { length columns.now < 255 }
+    requires narrow { length columns.now ≤ MOST_COLUMNS }
     ensures { IfOk result (λ put. values.new ≡ set_all columns.now sets.now values.old) }
 {
     let Some((set, more)) = sets.split_first() else {
@@ -37,7 +38,7 @@ fn set_all(
 
 /// The row with the new values.
 fn with_sets(alloc: Global, columns: &[Column], sets: &[Assign], row: &Row) -> Result<Row, Memory>
-    requires narrow { length columns.now < 255 }
+    requires narrow { length columns.now ≤ MOST_COLUMNS }
     ensures { IfOk result (λ new. new ≡ record { rowid = row.now.rowid; values = set_all columns.now sets.now row.now.values }) }
 {
     let mut values = Vec::with_capacity(alloc, row.values.len())?;
@@ -53,7 +54,7 @@ fn with_sets(alloc: Global, columns: &[Column], sets: &[Assign], row: &Row) -> R
 
 /// The row with the new values where it meets the terms.
 fn updated_row(alloc: Global, columns: &[Column], update: &Update, row: &Row) -> Result<Row, Memory>
-    requires narrow { length columns.now < 255 }
+    requires narrow { length columns.now ≤ MOST_COLUMNS }
     ensures { IfOk result (λ new. new ≡ updated_row columns.now update.now row.now) }
 {
     if meets_all(columns, update.where_terms.as_slice(), row) {
@@ -70,7 +71,7 @@ pub(crate) fn updated(
     update: &Update,
     rows: &[Row],
 ) -> Result<List<Row>, Memory>
-    requires narrow { length columns.now < 255 }
+    requires narrow { length columns.now ≤ MOST_COLUMNS }
     ensures { IfOk result (λ new. new ≡ updated columns.now update.now rows.now) }
 {
     let mut new = Vec::with_capacity(alloc, rows.len())?;
@@ -87,7 +88,7 @@ pub(crate) fn kept(
     delete: &Delete,
     rows: &[Row],
 ) -> Result<List<Row>, Memory>
-    requires narrow { length columns.now < 255 }
+    requires narrow { length columns.now ≤ MOST_COLUMNS }
     ensures { IfOk result (λ new. new ≡ kept columns.now delete.now rows.now) }
 {
     let mut new = List::new(alloc);
@@ -101,7 +102,7 @@ pub(crate) fn kept(
 
 /// How many rows meet the terms.
 pub(crate) fn met_count(columns: &[Column], terms: &[Constraint], rows: &[Row]) -> usize
-    requires narrow { length columns.now < 255 }
+    requires narrow { length columns.now ≤ MOST_COLUMNS }
     ensures { result ≡ length (met columns.now terms.now rows.now) }
 {
     let mut count = 0;
@@ -118,7 +119,7 @@ fn long_set(sets: &[Assign]) -> Option<Refusal>
     ensures { result ≡ first (long_values (map (λ set. set.value) sets.now)) }
 {
     let (set, more) = sets.split_first()?;
-    over(3, 1_048_576, side_bytes(&set.value)).or(long_set(more))
+    over_value(side_bytes(&set.value)).or(long_set(more))
 }
 
 /// What refuses an UPDATE that changes so many rows. The totals are those after it.
@@ -131,6 +132,6 @@ pub(crate) fn update_refusal(totals: Totals, changed: usize, update: &Update) ->
     } else {
         None
     };
-    long.or(over(4, 268_435_456, totals.vectors))
-        .or(over(5, 268_435_456, totals.sides))
+    long.or(over_vectors(totals.vectors))
+        .or(over_sides(totals.sides))
 }

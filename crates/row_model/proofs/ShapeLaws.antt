@@ -1,5 +1,6 @@
 -- A SELECT has a target exactly where one of its terms is a MATCH.
-use Rattle.std.proofs.Common.{◌≡◌, ℕ, ◌+◌, ◌<◌, Bool, true, false, cond, if◌then◌else◌, List, [], ◌∷◌, refl, sym, ◌∙◌, arith, Option, None}
+use Rattle.std.proofs.Common.{◌≡◌, ℕ, ◌+◌, ◌<◌, Bool, true, false, cond, if◌then◌else◌, List, [], ◌∷◌, refl, sym, ◌∙◌, arith, Option, None, Some, inl, inr}
+use Rattle.std.proofs.lemmas.Bool.{cases_Bool}
 use Rattle.std.proofs.lemmas.Bool.Decides.{nat_tests}
 use Rattle.std.proofs.lemmas.List.Sums.{sum_by-cons}
 use Rattle.std.specs.List.{list_any}
@@ -53,3 +54,14 @@ no_nearest columns terms h =
 pub plain_shape : (columns : List Column) (terms : List Constraint) (point : Bool) → is_nearest terms ≡ false → list_any (is_point_term columns) terms ≡ point →
     shape_by (target_of columns terms) columns terms ≡ (if point then Point else Scan)
 plain_shape columns terms point h p = rw (no_nearest columns terms h, p) refl
+
+-- a target comes of a MATCH
+pub nearest_with_target : (columns : List Column) (terms : List Constraint) (target : Target) → target_of columns terms ≡ Some target → is_nearest terms ≡ true
+nearest_with_target columns terms target found =
+    elim (cases_Bool (is_nearest terms)) [
+      | inl nearest ↦ nearest
+      | inr plain ↦ absurd (some≢none target (sym found ∙ no_nearest columns terms plain))
+    ]
+  where
+    some≢none : (target : Target) → Some target ≡ None → ⊥
+    some≢none target same = cc

@@ -3,10 +3,11 @@ use Rattle.std.specs.Prelude.{ℕ, ◌+◌, min, List}
 use Rattle.row_model.specs.declared.row.Row.{Row}
 use Rattle.plain_engine.specs.declared.totals.Totals.{Totals}
 use Rattle.row_model.specs.Change.{Elsewhere, rows_vector_bytes, rows_side_bytes}
+use Rattle.vec_base.specs.declared.limits.TheConstants.{LAST_COUNT}
 
--- 18,446,744,073,709,551,615 stands for every greater number too
+-- `LAST_COUNT` stands for every greater number too
 abbrev pub capped : ℕ → ℕ
-capped n = min n 18446744073709551615
+capped n = min n LAST_COUNT
 
 -- the bytes of other tables and of these rows
 abbrev pub total_beside : Elsewhere → List Row → Totals
