@@ -1,2 +1,2 @@
 pub mod DirectRequests
-mod inner
+pub mod inner
