@@ -4,7 +4,7 @@
 mod hexadecimal;
 mod number;
 mod piece;
-// mod refusal;
+mod refusal;
 mod takes;
 mod value;
 mod vector;
@@ -12,7 +12,7 @@ mod vector;
 pub use hexadecimal::put_hex;
 pub use number::{put_number, put_signed};
 pub use piece::{Piece, put_separated};
-// pub use refusal::put_refusal;
+pub use refusal::put_refusal;
 pub use takes::Takes;
 pub use value::{put_quoted, put_value};
 pub use vector::put_int8;
