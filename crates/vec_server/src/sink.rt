@@ -1,3 +1,4 @@
+//! Standard output, or any writer, as a sink.
 ghost use Rattle.std.specs.Prelude.{◌≡◌, ◌≤◌, ◌<◌, length, take, IfOk, OnOk, OnErr, None};
 ghost use Rattle.std.specs.Io.KnownBytes.{Appends};
 ghost use Rattle.vec_base.specs.declared.sink.WriteOutcome.TheVariants.{Took, Failed};
