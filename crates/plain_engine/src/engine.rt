@@ -50,8 +50,9 @@ fn is_open(sessions: &[Session], id: u32) -> bool
 pub(crate) fn one_session_more(sessions: &[Session], last_id: u32) -> Option<Refusal>
     ensures { result ≡ first (over_sessions (length sessions.now + 1) ++ over_session_ids (last_id + 1)) }
 {
-    over_sessions((sessions.len() as u64).saturating_add(1))
-        .or(over_session_ids(u64::from(last_id) + 1))
+    over_sessions((sessions.len() as u64).saturating_add(1)).or(over_session_ids(
+        u64::from(last_id) + 1,
+    ))
 }
 
 /// Opens a session with the last id plus one.

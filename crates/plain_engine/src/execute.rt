@@ -214,14 +214,13 @@ pub(crate) fn drop_table(state: &mut State, name: &Txt) -> Reply
 
 /// Puts a changed table in its place, and commits. Answers the reply, or the refusal of one more commit.
 fn commit_table(state: &mut State, alloc: Global, at: usize, table: Table, reply: Reply) -> Reply
+    requires there { at < length state.old.catalog.tables }
     ensures { (name : Seq ℕ) → IsTableAt name state.old.catalog.tables at → CommitsInAutoCommit state.old (reply, with_tables (with_table name table state.old.catalog.tables)) result state.new }
 {
     if let Some(refusal) = spent_commits(state) {
         return Reply::Refused(refusal);
     }
-    let Some(named) = state.catalog.tables.get(at) else {
-        return reply;
-    };
+    let named = &state.catalog.tables.as_slice()[at];
     let Ok(name) = named.name.copy(alloc) else {
         return Reply::Refused(Refusal::WantOfMemory);
     };

@@ -11,7 +11,9 @@ ghost use Rattle.row_model.specs.declared.schema.TheConstants.{MOST_COLUMNS};
 use crate::insert::put_at;
 use crate::meet::meets_all;
 use crate::totals::{Totals, side_bytes};
-use row_model::{Assign, Column, Constraint, Delete, Place, Row, Update, over_sides, over_value, over_vectors};
+use row_model::{
+    Assign, Column, Constraint, Delete, Place, Row, Update, over_sides, over_value, over_vectors,
+};
 use std::alloc::Global;
 use vec_base::{List, Memory, Refusal, Value};
 

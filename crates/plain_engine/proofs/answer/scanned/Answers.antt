@@ -1,7 +1,7 @@
 use Rattle.std.proofs.Common.{◌≤◌, ◌∙◌, length, take, map, ap, arith}
 use Rattle.row_model.specs.Answer.{at_zero, met}
 use Rattle.row_model.specs.Values.{meets_all}
-use Rattle.plain_engine.proofs.NearLaws.{first_found, length_map}
+use Rattle.plain_engine.proofs.ScanLaws.{first_found, length_map}
 use Rattle.plain_engine.proofs.answer.scanned.Goals as goal
 
 pub returns-then-most-len : goal.returns-then-most-len
