@@ -14,4 +14,4 @@ chosen-requires-clause-comparable c =
 
 pub chosen-requires-clause-few : goal.chosen-requires-clause-few
 chosen-requires-clause-few c =
-    rw (c.as_slice-columns.ensures, c.as_slice.ensures) (few_wanted c.args.table.now.schema.columns c.args.select.now c.requires.checked)
+    rw c.as_slice-columns.ensures (few_wanted c.args.table.now.schema.columns c.args.select.now c.requires.checked)

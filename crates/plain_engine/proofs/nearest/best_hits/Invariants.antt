@@ -1,4 +1,4 @@
-use Rattle.std.proofs.Common.{◌≡◌, ◌×◌, [], take}
+use Rattle.std.proofs.Common.{◌≡◌, [], take}
 use Rattle.std.specs.Prelude.{map}
 use Rattle.vec_base.specs.inner.Offers.{offered}
 use Rattle.topk_merge.specs.Hits.{is_before}
