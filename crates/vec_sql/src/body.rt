@@ -47,7 +47,7 @@ fn drop_table(reader: &mut Reader<'_>) -> Result<GivenStatement, Stop>
 }
 
 /// Reads an INSERT.
-#[tactic(auto, unfolding(crate::specs::StatementGrammar::insert, crate::specs::inner::FactoredStatements::names_list, crate::specs::inner::FactoredStatements::groups_list))]
+#[tactic(auto, unfolding(crate::specs::StatementGrammar::insert))]
 fn insert(alloc: Global, reader: &mut Reader<'_>) -> Result<GivenStatement, Stop>
     ensures reads { Gives (λ x. x) result (read insert (rest_of reader.old)) (rest_of reader.new) }
     ensures formed { IfOk result (λ given. is_formed given ≡ true) }

@@ -14,7 +14,7 @@ use row_model::{Items, Order};
 use std::alloc::Global;
 
 /// Reads `*` or names.
-#[tactic(auto, unfolding(crate::specs::StatementGrammar::items_part, crate::specs::inner::FactoredStatements::names_list))]
+#[tactic(auto, unfolding(crate::specs::StatementGrammar::items_part))]
 fn items(alloc: Global, reader: &mut Reader<'_>) -> Result<Items, Stop>
     ensures reads { Gives (λ x. x) result (read items_part (rest_of reader.old)) (rest_of reader.new) }
     ensures formed { IfOk result (λ items. are_formed_items items ≡ true) }
