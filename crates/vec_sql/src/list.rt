@@ -14,7 +14,7 @@ use grammar::{Item, Reader, Stop, listed};
 use std::alloc::Global;
 use vec_base::{List, Txt};
 
-impl<'a> Item<'a> for Given {
+impl<'a> Item<'a> for Given<'a> {
     ghost use Rattle.std.specs.Prelude.{codes};
     ghost use Rattle.grammar.specs.Grammar.{sign};
     ghost use Rattle.vec_sql.specs.StatementGrammar.{value};
@@ -26,7 +26,7 @@ impl<'a> Item<'a> for Given {
 
     ghost between = { sign (codes ",") };
 
-    fn read(_alloc: Global, reader: &mut Reader<'a>) -> Result<Given, Stop> {
+    fn read(_alloc: Global, reader: &mut Reader<'a>) -> Result<Given<'a>, Stop> {
         value(reader)
     }
 
@@ -39,7 +39,7 @@ impl<'a> Item<'a> for Given {
     }
 }
 
-impl<'a> Item<'a> for Group {
+impl<'a> Item<'a> for Group<'a> {
     ghost use Rattle.std.specs.Prelude.{codes};
     ghost use Rattle.grammar.specs.Grammar.{sign};
     ghost use Rattle.vec_sql.specs.StatementGrammar.{group};
@@ -51,7 +51,7 @@ impl<'a> Item<'a> for Group {
 
     ghost between = { sign (codes ",") };
 
-    fn read(alloc: Global, reader: &mut Reader<'a>) -> Result<Group, Stop> {
+    fn read(alloc: Global, reader: &mut Reader<'a>) -> Result<Group<'a>, Stop> {
         group(alloc, reader)
     }
 
@@ -64,7 +64,7 @@ impl<'a> Item<'a> for Group {
     }
 }
 
-impl<'a> Item<'a> for GivenAssign {
+impl<'a> Item<'a> for GivenAssign<'a> {
     ghost use Rattle.std.specs.Prelude.{codes};
     ghost use Rattle.grammar.specs.Grammar.{sign};
     ghost use Rattle.vec_sql.specs.StatementGrammar.{assignment};
@@ -76,7 +76,7 @@ impl<'a> Item<'a> for GivenAssign {
 
     ghost between = { sign (codes ",") };
 
-    fn read(_alloc: Global, reader: &mut Reader<'a>) -> Result<GivenAssign, Stop> {
+    fn read(_alloc: Global, reader: &mut Reader<'a>) -> Result<GivenAssign<'a>, Stop> {
         assignment(reader)
     }
 
@@ -100,7 +100,7 @@ pub(crate) fn names(alloc: Global, reader: &mut Reader<'_>) -> Result<List<Txt>,
 
 /// Reads values with commas between them.
 #[tactic(auto, using(crate::proofs::Filled::filled_by))]
-pub(crate) fn values(alloc: Global, reader: &mut Reader<'_>) -> Result<List<Given>, Stop>
+pub(crate) fn values<'a>(alloc: Global, reader: &mut Reader<'a>) -> Result<List<Given<'a>>, Stop>
     ensures reads { Gives (λ x. x) result (read (list_of value) (rest_of reader.old)) (rest_of reader.new) }
     ensures formed { IfOk result (λ values. are_formed_values values ≡ true) }
 {
@@ -109,7 +109,7 @@ pub(crate) fn values(alloc: Global, reader: &mut Reader<'_>) -> Result<List<Give
 
 /// Reads the values of a row, with parentheses around them.
 #[tactic(auto, unfolding(crate::specs::StatementGrammar::group))]
-fn group(alloc: Global, reader: &mut Reader<'_>) -> Result<Group, Stop>
+fn group<'a>(alloc: Global, reader: &mut Reader<'a>) -> Result<Group<'a>, Stop>
     ensures reads { Gives (λ x. x) result (read group (rest_of reader.old)) (rest_of reader.new) }
     ensures formed { IfOk result (λ group. is_formed_group group ≡ true) }
 {
@@ -121,7 +121,7 @@ fn group(alloc: Global, reader: &mut Reader<'_>) -> Result<Group, Stop>
 
 /// Reads rows with commas between them.
 #[tactic(auto, using(crate::proofs::Filled::filled_by))]
-pub(crate) fn groups(alloc: Global, reader: &mut Reader<'_>) -> Result<List<Group>, Stop>
+pub(crate) fn groups<'a>(alloc: Global, reader: &mut Reader<'a>) -> Result<List<Group<'a>>, Stop>
     ensures reads { Gives (λ x. x) result (read (list_of group) (rest_of reader.old)) (rest_of reader.new) }
     ensures formed { IfOk result (λ groups. (list_all is_formed_group groups && is_filled groups) ≡ true) }
 {
@@ -130,7 +130,7 @@ pub(crate) fn groups(alloc: Global, reader: &mut Reader<'_>) -> Result<List<Grou
 
 /// Reads a column and the value that it is set to.
 #[tactic(auto, unfolding(crate::specs::StatementGrammar::assignment))]
-fn assignment(reader: &mut Reader<'_>) -> Result<GivenAssign, Stop>
+fn assignment<'a>(reader: &mut Reader<'a>) -> Result<GivenAssign<'a>, Stop>
     ensures reads { Gives (λ x. x) result (read assignment (rest_of reader.old)) (rest_of reader.new) }
     ensures formed { IfOk result (λ set. is_formed_set set ≡ true) }
 {
@@ -142,7 +142,10 @@ fn assignment(reader: &mut Reader<'_>) -> Result<GivenAssign, Stop>
 
 /// Reads columns and the values that they are set to, with commas between them.
 #[tactic(auto, using(crate::proofs::Filled::filled_by))]
-pub(crate) fn assignments(alloc: Global, reader: &mut Reader<'_>) -> Result<List<GivenAssign>, Stop>
+pub(crate) fn assignments<'a>(
+    alloc: Global,
+    reader: &mut Reader<'a>,
+) -> Result<List<GivenAssign<'a>>, Stop>
     ensures reads { Gives (λ x. x) result (read (list_of assignment) (rest_of reader.old)) (rest_of reader.new) }
     ensures formed { IfOk result (λ sets. (list_all is_formed_set sets && is_filled sets) ≡ true) }
 {

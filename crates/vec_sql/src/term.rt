@@ -16,7 +16,7 @@ use vec_base::List;
 
 /// Reads an operator and a value.
 #[tactic(auto, unfolding(crate::specs::StatementGrammar::comparison))]
-fn comparison(reader: &mut Reader<'_>) -> Result<GivenTest, Stop>
+fn comparison<'a>(reader: &mut Reader<'a>) -> Result<GivenTest<'a>, Stop>
     ensures reads { Gives (λ x. x) result (read comparison (rest_of reader.old)) (rest_of reader.new) }
     ensures formed { IfOk result (λ test. is_formed_test test ≡ true) }
 {
@@ -27,7 +27,7 @@ fn comparison(reader: &mut Reader<'_>) -> Result<GivenTest, Stop>
 
 /// Reads IN and its members.
 #[tactic(auto, unfolding(crate::specs::StatementGrammar::member))]
-fn member(alloc: Global, reader: &mut Reader<'_>) -> Result<GivenTest, Stop>
+fn member<'a>(alloc: Global, reader: &mut Reader<'a>) -> Result<GivenTest<'a>, Stop>
     ensures reads { Gives (λ x. x) result (read member (rest_of reader.old)) (rest_of reader.new) }
     ensures formed { IfOk result (λ test. is_formed_test test ≡ true) }
 {
@@ -40,7 +40,7 @@ fn member(alloc: Global, reader: &mut Reader<'_>) -> Result<GivenTest, Stop>
 
 /// Reads MATCH and its vector.
 #[tactic(auto, unfolding(crate::specs::StatementGrammar::match_of))]
-fn match_of(reader: &mut Reader<'_>) -> Result<GivenTest, Stop>
+fn match_of<'a>(reader: &mut Reader<'a>) -> Result<GivenTest<'a>, Stop>
     ensures reads { Gives (λ x. x) result (read match_of (rest_of reader.old)) (rest_of reader.new) }
     ensures formed { IfOk result (λ test. is_formed_test test ≡ true) }
 {
@@ -51,7 +51,7 @@ fn match_of(reader: &mut Reader<'_>) -> Result<GivenTest, Stop>
 
 /// Reads what is asked of a column.
 #[tactic(auto, unfolding(crate::specs::inner::FactoredStatements::test, crate::specs::StatementGrammar::member, crate::specs::StatementGrammar::match_of))]
-fn test(alloc: Global, reader: &mut Reader<'_>) -> Result<GivenTest, Stop>
+fn test<'a>(alloc: Global, reader: &mut Reader<'a>) -> Result<GivenTest<'a>, Stop>
     ensures reads { Gives (λ x. x) result (read test (rest_of reader.old)) (rest_of reader.new) }
     ensures formed { IfOk result (λ test. is_formed_test test ≡ true) }
 {
@@ -66,7 +66,7 @@ fn test(alloc: Global, reader: &mut Reader<'_>) -> Result<GivenTest, Stop>
 
 /// Reads a term.
 #[tactic(auto, unfolding(crate::specs::inner::FactoredStatements::factored_term))]
-fn term(alloc: Global, reader: &mut Reader<'_>) -> Result<GivenTerm, Stop>
+fn term<'a>(alloc: Global, reader: &mut Reader<'a>) -> Result<GivenTerm<'a>, Stop>
     ensures reads { Gives (λ x. x) result (read factored_term (rest_of reader.old)) (rest_of reader.new) }
     ensures formed { IfOk result (λ term. is_formed_term term ≡ true) }
 {
@@ -75,7 +75,7 @@ fn term(alloc: Global, reader: &mut Reader<'_>) -> Result<GivenTerm, Stop>
     Ok(GivenTerm { column, test })
 }
 
-impl<'a> Item<'a> for GivenTerm {
+impl<'a> Item<'a> for GivenTerm<'a> {
     ghost use Rattle.std.specs.Prelude.{codes};
     ghost use Rattle.grammar.specs.Grammar.{keyword};
     ghost use Rattle.vec_sql.specs.inner.FactoredStatements.{factored_term};
@@ -87,7 +87,7 @@ impl<'a> Item<'a> for GivenTerm {
 
     ghost between = { keyword (codes "AND") };
 
-    fn read(alloc: Global, reader: &mut Reader<'a>) -> Result<GivenTerm, Stop> {
+    fn read(alloc: Global, reader: &mut Reader<'a>) -> Result<GivenTerm<'a>, Stop> {
         term(alloc, reader)
     }
 
@@ -102,7 +102,7 @@ impl<'a> Item<'a> for GivenTerm {
 
 /// Reads terms with AND between them.
 #[tactic(auto, unfolding(crate::specs::inner::FactoredStatements::terms_list))]
-fn terms(alloc: Global, reader: &mut Reader<'_>) -> Result<List<GivenTerm>, Stop>
+fn terms<'a>(alloc: Global, reader: &mut Reader<'a>) -> Result<List<GivenTerm<'a>>, Stop>
     ensures reads { Gives (λ x. x) result (read terms_list (rest_of reader.old)) (rest_of reader.new) }
     ensures formed { IfOk result (λ terms. list_all is_formed_term terms ≡ true) }
 {
@@ -111,7 +111,7 @@ fn terms(alloc: Global, reader: &mut Reader<'_>) -> Result<List<GivenTerm>, Stop
 
 /// Reads WHERE and its terms.
 #[tactic(auto, unfolding(crate::specs::inner::FactoredStatements::factored_where))]
-fn where_part(alloc: Global, reader: &mut Reader<'_>) -> Result<List<GivenTerm>, Stop>
+fn where_part<'a>(alloc: Global, reader: &mut Reader<'a>) -> Result<List<GivenTerm<'a>>, Stop>
     ensures reads { Gives (λ x. x) result (read factored_where (rest_of reader.old)) (rest_of reader.new) }
     ensures formed { IfOk result (λ terms. list_all is_formed_term terms ≡ true) }
 {
@@ -121,7 +121,10 @@ fn where_part(alloc: Global, reader: &mut Reader<'_>) -> Result<List<GivenTerm>,
 
 /// Reads WHERE and its terms, or no terms where there is none.
 #[tactic(auto, unfolding(crate::specs::inner::FactoredStatements::maybe_where, crate::specs::inner::FactoredStatements::factored_where))]
-pub(crate) fn maybe_where(alloc: Global, reader: &mut Reader<'_>) -> Result<List<GivenTerm>, Stop>
+pub(crate) fn maybe_where<'a>(
+    alloc: Global,
+    reader: &mut Reader<'a>,
+) -> Result<List<GivenTerm<'a>>, Stop>
     ensures reads { Gives (λ x. x) result (read maybe_where (rest_of reader.old)) (rest_of reader.new) }
     ensures formed { IfOk result (λ terms. list_all is_formed_term terms ≡ true) }
 {
