@@ -1,7 +1,6 @@
 pub mod Adding
 pub mod BitsLaws
 pub mod Decimals
-pub mod Doubling
 pub mod Enclosed
 pub mod Following
 pub mod Int8Complete
@@ -20,4 +19,3 @@ pub mod Runs
 pub mod Sorts
 pub mod Texts
 pub mod ValuesBefore
-pub mod Written

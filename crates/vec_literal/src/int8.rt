@@ -1,15 +1,14 @@
-ghost use Rattle.std.specs.Prelude.{◌≡◌, ◌⊎◌, ℕ, [], ◌∷◌, ◌++◌, List, IfOk, IfErr, OnOk, string_bytes};
-ghost use Rattle.std.specs.Fmt.{signed_decimal};
-ghost use Rattle.std.specs.Int.{w8, cast_signed};
-ghost use Rattle.std.specs.List.{flat_map};
-ghost use Rattle.vec_literal.specs.Int8.{SpellsInt8, elements_text, int8_text, is_space};
+ghost use Rattle.std.specs.Prelude.{◌≡◌, ◌⊎◌, ℕ, [], List, IfOk, IfErr, OnOk};
+ghost use Rattle.vec_literal.specs.Int8.{SpellsInt8, is_space};
+ghost use Rattle.vec_text.specs.ValueTexts.{int8_text};
 ghost use Rattle.vec_literal.specs.declared.int8.LitFault.{LitFault as Fault};
 ghost use Rattle.vec_literal.specs.declared.int8.LitFault.TheVariants.{Memory as WantOfMemory};
 ghost use Rattle.vec_literal.specs.Faults.{ReadsAs, FaultsAs, IsInt8Fault};
 ghost use Rattle.vec_literal.specs.inner.Int8Reading.{number_start, first_digit, after_element};
 
-use std::alloc::{AllocError, Global};
+use std::alloc::Global;
 use vec_base::{Bytes, Memory, Txt};
+use vec_text::put_int8;
 
 /// Why a literal is not read.
 #[derive(Clone, Copy, Debug, PartialEq, Eq)]
@@ -56,7 +55,7 @@ pub fn write_int8(alloc: Global, vector: &[u8]) -> Result<Txt, Memory>
     ensures reads_back { IfOk result (λ t. SpellsInt8 t vector.now) }
 {
     let mut text = String::new(alloc);
-    write_vector(&mut text, vector)?;
+    put_int8(&mut text, vector)?;
     Ok(Txt::from_string(text))
 }
 
@@ -302,47 +301,6 @@ impl Number {
             magnitude,
         }))
     }
-}
-
-/// Writes the literal of the vector, without white space.
-pub(crate) fn write_vector(text: &mut String, vector: &[u8]) -> Result<(), AllocError>
-    ensures { OnOk result (string_bytes text.new ≡ string_bytes text.old ++ int8_text vector.now) }
-{
-    text.push_str("[")?;
-    write_elements(text, vector)?;
-    text.push_str("]")
-}
-
-/// Writes the elements of a vector with commas between them.
-fn write_elements(text: &mut String, vector: &[u8]) -> Result<(), AllocError>
-    ensures { OnOk result (string_bytes text.new ≡ string_bytes text.old ++ elements_text vector.now) }
-{
-    match vector {
-        [] => Ok(()),
-        [first, others @ ..] => {
-            write_element(text, *first)?;
-            write_more_elements(text, others)
-        }
-    }
-}
-
-/// Writes the elements behind the first one, each with a comma before it.
-fn write_more_elements(text: &mut String, others: &[u8]) -> Result<(), AllocError>
-    ensures { OnOk result (string_bytes text.new ≡ string_bytes text.old ++ flat_map (λ b. 44 ∷ signed_decimal (cast_signed w8 b)) others.now) }
-{
-    for element in others {
-        text.push_str(",")?;
-        write_element(text, *element)?;
-    }
-    Ok(())
-}
-
-/// Writes an element of a vector in decimal.
-fn write_element(text: &mut String, element: u8) -> Result<(), AllocError>
-    ensures { OnOk result (string_bytes text.new ≡ string_bytes text.old ++ signed_decimal (cast_signed w8 element)) }
-{
-    let mut buffer = itoa::Buffer::new();
-    text.push_str(buffer.format(element.cast_signed()))
 }
 
 #[cfg(test)]

@@ -5,10 +5,8 @@ mod bits;
 mod int8;
 mod literal;
 mod token;
-mod value;
 
 pub use bits::{read_bits, write_bits};
 pub use int8::{LitFault, read_int8, write_int8};
 pub use literal::{between_quotes, read_blob, read_text};
 pub use token::{Lexed, Token, TokenSort, next_token};
-pub use value::write_value;
