@@ -227,7 +227,7 @@ ok_only text v zs e l (Range j) (ys, list, first) = absurd (misfit_not_all ys j 
 ok_only text v zs e l OddHex k = absurd k
 ok_only text v zs e l Memory k = absurd k
 
-ok_answers : (text v : List ℕ) → Reads text (reader_at Closed v) → Answers text (Ok v)
+pub ok_answers : (text v : List ℕ) → Reads text (reader_at Closed v) → Answers text (Ok v)
 ok_answers text v e =
     let (zs, stands, kept) = read_stands text _ e in
     record {

@@ -9,6 +9,7 @@ pub mod Int8Elements
 pub mod Int8Kept
 pub mod Int8Laws
 pub mod Int8Sound
+pub mod Int8Usual
 pub mod Int8Worked
 pub mod Int8Written
 pub mod Lexing

@@ -6,7 +6,8 @@ ghost use Rattle.vec_literal.specs.declared.int8.LitFault.TheVariants.{Memory as
 ghost use Rattle.vec_literal.specs.Faults.{ReadsAs, FaultsAs, IsInt8Fault};
 ghost use Rattle.vec_literal.specs.inner.Int8Reading.{number_start, first_digit, after_element};
 
-use std::alloc::Global;
+use crate::usual_int8::read_usual;
+use std::alloc::{AllocError, Global};
 use vec_base::{Bytes, Memory, Txt};
 use vec_text::put_int8;
 
@@ -24,6 +25,14 @@ pub enum LitFault {
     Memory,
 }
 
+impl From<AllocError> for LitFault {
+    ghost from_gives = { λ _ e. e ≡ WantOfMemory };
+
+    fn from(_: AllocError) -> Self {
+        LitFault::Memory
+    }
+}
+
 impl From<Memory> for LitFault {
     ghost from_gives = { λ _ e. e ≡ WantOfMemory };
 
@@ -35,6 +44,19 @@ impl From<Memory> for LitFault {
 /// The vector that the text spells, one byte for each element.
 /// `Place` where the text is not in the form, whatever its numbers, and `Range` where only a number is too large.
 pub fn read_int8(alloc: Global, text: &[u8]) -> Result<Bytes, LitFault>
+    ensures found { IfOk result (λ vector. SpellsInt8 text.now vector) }
+    ensures only { (vector : List ℕ) → SpellsInt8 text.now vector → ReadsAs result vector }
+    ensures fault { IfErr result (λ fault. (fault ≡ WantOfMemory) ⊎ IsInt8Fault text.now fault) }
+    ensures only_fault { (fault : Fault) → IsInt8Fault text.now fault → FaultsAs result fault }
+{
+    if let Some(vector) = read_usual(alloc, text)? {
+        return Ok(Bytes::from_vec(vector));
+    }
+    read_exactly(alloc, text)
+}
+
+/// The same, byte by byte, for texts in any form.
+fn read_exactly(alloc: Global, text: &[u8]) -> Result<Bytes, LitFault>
     ensures found { IfOk result (λ vector. SpellsInt8 text.now vector) }
     ensures only { (vector : List ℕ) → SpellsInt8 text.now vector → ReadsAs result vector }
     ensures fault { IfErr result (λ fault. (fault ≡ WantOfMemory) ⊎ IsInt8Fault text.now fault) }
@@ -252,10 +274,10 @@ fn after_element(byte: u8) -> Option<Stage>
 
 /// A number of which the digits so far are read.
 #[derive(Clone, Copy)]
-struct Number {
-    negative: bool,
+pub(crate) struct Number {
+    pub(crate) negative: bool,
     /// The number without its sign. From `TOO_LARGE` on it grows no further.
-    magnitude: u16,
+    pub(crate) magnitude: u16,
 }
 
 /// A magnitude that fits no element, with any sign.
@@ -267,7 +289,7 @@ impl Number {
     ghost use Rattle.vec_literal.specs.inner.Int8Reading.{byte_of, next_digit};
 
     /// The byte of the element, or `None` where the number is outside -128 to 127.
-    fn byte(self) -> Option<u8>
+    pub(crate) fn byte(self) -> Option<u8>
         ensures { result ≡ byte_of self }
     {
         if self.negative {

@@ -5,6 +5,7 @@ mod bits;
 mod int8;
 mod literal;
 mod token;
+mod usual_int8;
 
 pub use bits::{read_bits, write_bits};
 pub use int8::{LitFault, read_int8, write_int8};
