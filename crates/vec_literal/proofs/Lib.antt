@@ -15,6 +15,7 @@ pub mod Int8Written
 pub mod Lexing
 pub mod LiteralsBefore
 pub mod Marks
+pub mod QuoteSearch
 pub mod Quoted
 pub mod Runs
 pub mod Sorts

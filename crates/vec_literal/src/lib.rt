@@ -4,6 +4,7 @@
 mod bits;
 mod int8;
 mod literal;
+mod quote;
 mod token;
 mod usual_int8;
 

@@ -122,17 +122,24 @@ takes false Comma = true
 takes true Minus = true
 takes _ _ = false
 
--- The number stands in the text from a place up to another, where its last digit may be followed by more. A reader that has
--- read what stands before it, and is at such a stage, can read the number.
-pub record ReadsNumber (may_begin : Stage → Bool) (text : List ℕ) (from end : ℕ) (number : Number) : Type 0 where
-  pub rising : from < end
-  pub inside : end ≤ length text
-  pub reads : (stage : Stage) (vector : List ℕ) → may_begin stage ≡ true → read_bytes (reader_at Start []) (take from text) ≡ Some (reader_at stage vector) →
-      read_bytes (reader_at Start []) (take end text) ≡ Some (reader_at (Digits number) vector)
+-- The number is spelled by the first bytes of the text, where its last digit may be followed by more. A reader at a stage
+-- where one may begin can read it.
+pub record ReadsNumber (text : List ℕ) (spelling : ℕ) (number : Number) : Type 0 where
+  pub some : 0 < spelling
+  pub inside : spelling ≤ length text
+  pub reads : (stage : Stage) (vector : List ℕ) → is_due stage ≡ true → read_bytes (reader_at stage vector) (take spelling text) ≡ Some (reader_at (Digits number) vector)
 
--- an element of that byte stands there, and the text goes on behind it
-abbrev pub ReadsElement : List ℕ → ℕ → ℕ → ℕ → Type 0
-ReadsElement text from end byte = (number : Number) × (byte_of number ≡ Some byte) × (end < length text) × ReadsNumber is_due text from end number
+-- The same of a number of this sign, whose digits stand from a place on: a reader that has read what stands before them, and
+-- is at a stage where they may begin, can read them.
+pub record ReadsDigits (negative : Bool) (text : List ℕ) (from upto : ℕ) (number : Number) : Type 0 where
+  pub rising : from < upto
+  pub inside : upto ≤ length text
+  pub reads : (start : Reader) (stage : Stage) (vector : List ℕ) → takes negative stage ≡ true → read_bytes start (take from text) ≡ Some (reader_at stage vector) →
+      read_bytes start (take upto text) ≡ Some (reader_at (Digits number) vector)
+
+-- an element of that byte is spelled by the first bytes of the text, and the text goes on behind it
+abbrev pub ReadsElement : List ℕ → ℕ → ℕ → Type 0
+ReadsElement text spelling byte = (number : Number) × (byte_of number ≡ Some byte) × (spelling < length text) × ReadsNumber text spelling number
 
 -- what a reader answers where the text, of this length, ends
 abbrev pub outcome_of : Reader → ℕ → Result (List ℕ) LitFault

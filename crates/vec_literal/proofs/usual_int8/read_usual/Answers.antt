@@ -1,6 +1,5 @@
 use Rattle.std.proofs.Common.{rules}
-use Rattle.vec_literal.specs.inner.Int8Reading.{ReadsWhole}
-use Rattle.vec_literal.proofs.Int8Usual.{AwaitsElement, opened, next_awaits, closed_whole}
+use Rattle.vec_literal.proofs.Int8Usual.{opened, next_awaits, closed_whole}
 use Rattle.vec_literal.proofs.usual_int8.read_usual.Goals as goal
 
 pub loop-element-init : goal.loop-element-init
@@ -9,11 +8,11 @@ loop-element-init c = rw c.in_ok-vector.ensures.items (opened c.args.text.now (s
 pub loop-element-preserved : goal.loop-element-preserved
 loop-element-preserved c =
     rw c.in_ok-push.ensures.items
-    (next_awaits c.args.text.now c.loop-element.vector.items c.loop-element.from c.in-Some.element.end c.in-Some.element.byte c.spaces_end-from.result
+    (next_awaits c.args.text.now c.loop-element.vector.items c.loop-element.from c.in-Some.element.length c.in-Some.element.byte c.spaces_end-from.result
     c.loop-element.invariant c.in-Some.ensures c.in-44.is c.spaces_end-from.ensures.passed c.spaces_end-from.ensures.inside c.spaces_end-from.ensures.spaces)
 
 pub returns-in-93 : goal.returns-in-93
 returns-in-93 c =
     rw c.in_ok-push.ensures.items
-    (closed_whole c.args.text.now c.loop-element.vector.items c.loop-element.from c.in-Some.element.end c.in-Some.element.byte
-    c.loop-element.invariant c.in-Some.ensures c.in-93.is c.if-element-text.true)
+    (closed_whole c.args.text.now c.loop-element.vector.items c.loop-element.from c.in-Some.element.length c.in-Some.element.byte
+    c.loop-element.invariant c.in-Some.ensures c.in-93.is c.if-end-text.true)
