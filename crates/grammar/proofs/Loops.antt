@@ -1,6 +1,8 @@
 -- Parts in braces, read by a loop.
-use Rattle.std.proofs.Common.{◌≡◌, ℕ, zero, suc, ◌<◌, ◌≤◌, true, false, cond, List, [], ◌∷◌, ◌++◌, length, Result, Ok, Err, refl, sym, ◌∙◌, ap, subst, arith, append_assoc, length-append, append-nil}
-use Rattle.std.proofs.lemmas.Bool.{cond-true, cond-false}
+use Rattle.std.proofs.Common.{◌≡◌, ℕ, zero, suc, ◌<◌, ◌≤◌, Bool, true, false, cond, List, [], ◌∷◌, ◌++◌, length, Result, Ok, Err, refl, sym, ◌∙◌, ap, subst, arith, append_assoc, length-append, append-nil}
+use Rattle.std.specs.List.{list_all}
+use Rattle.std.proofs.lemmas.Bool.{cond-true, cond-false, and_from}
+use Rattle.std.proofs.lemmas.List.Folds.{list_all-append}
 use Rattle.vec_literal.specs.Tokens.{Token}
 use Rattle.grammar.specs.Grammar.{Part, seq, many, means, Spells, SpellsFront, FailsAt, FailsInside}
 use Rattle.grammar.specs.inner.Reading.{Outcome, ◌>>=◌, nullable, nexts, next_in, starts, read_many, read, ended, decides}
@@ -77,6 +79,10 @@ pub many_ends : {A : Type 0} (p : Part A) (front : List A) (ts : List Token) →
 many_ends {A} p front [] s = ap (λ (z : List A). (let r : Outcome (List A) = Ok (z, []) in r)) (append-nil front)
 many_ends {A} p front (t ∷ us) s =
     ap (λ (z : Outcome (List A)). with_front front z) (cond-false (starts p (t ∷ us)) _ _ s) ∙ ap (λ (z : List A). (let r : Outcome (List A) = Ok (z, t ∷ us) in r)) (append-nil front)
+
+-- what holds of each item holds of the list with one item more
+pub all_pushed : {A : Type 0} (f : A → Bool) (front whole : List A) (v : A) → whole ≡ front ++ v ∷ [] → list_all f front ≡ true → f v ≡ true → list_all f whole ≡ true
+all_pushed {A} f front whole v e h k = ap (λ (z : List A). list_all f z) e ∙ (list_all-append f front (v ∷ []) ∙ and_from _ _ h (and_from _ _ k refl))
 
 -- one part, and then parts in braces
 

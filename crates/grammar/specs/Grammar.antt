@@ -94,12 +94,24 @@ infixl 25 ◌◂◌
 abbrev pub ◌◂◌ : {A B : Type 0} → Part A → Part B → Part A
 p ◂ q = means (λ x. x.0) (seq p q)
 
+-- a token, which stands for nothing
+abbrev pub a_token : Class → Part (Unit {0})
+a_token c = means (λ t. tt) (one c)
+
 -- a word, in any case
 abbrev pub a_word : List ℕ → Part (Unit {0})
-a_word w = means (λ t. tt) (one (keyword w))
+a_word w = a_token (keyword w)
 
 abbrev pub a_mark : List ℕ → Part (Unit {0})
-a_mark m = means (λ t. tt) (one (sign m))
+a_mark m = a_token (sign m)
+
+-- p {c p}
+abbrev pub parts_with : {A : Type 0} → Class → Part A → Part (List A)
+parts_with c p = means (λ x. x.0 ∷ x.1) (seq p (many (a_token c ▸ p)))
+
+-- p {, p}
+abbrev pub list_of : {A : Type 0} → Part A → Part (List A)
+list_of p = parts_with (sign (codes ",")) p
 
 -- a name, in lower case
 abbrev pub a_name : Part (List ℕ)

@@ -1,10 +1,12 @@
 //! Grammars as data, and a reader of tokens with one of them at hand.
 #![tactic(auto)]
 
+mod list;
 mod numbers;
 mod reader;
 mod words;
 
+pub use list::{Item, listed};
 pub use reader::{Reader, Stop};
 
 #[cfg(test)]

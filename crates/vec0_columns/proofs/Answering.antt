@@ -15,7 +15,7 @@ use Rattle.row_model.specs.declared.schema.Schema.{Schema}
 use Rattle.vec0_columns.specs.declared.text.Arg.{Arg}
 use Rattle.vec0_columns.specs.ColumnGrammar.{columns, enclosed, schema_of, text_fault, answer_by, answer_of, IsAnswer, text_limit, Declares, DeclaresAt, IsRefusalOf, FailsBy, Breaks, IsRefusal, FailsByAt, BreaksAt, IsRefusalAt, placed}
 use Rattle.vec0_columns.specs.inner.FactoredColumns.{factored_columns, factored_enclosed}
-use Rattle.vec0_columns.proofs.ColumnLoop.{columns_decides, enclosed_decides, enclosed_ends}
+use Rattle.vec0_columns.proofs.ColumnChoices.{columns_decides, enclosed_decides, enclosed_ends}
 use Rattle.vec0_columns.proofs.ColumnLines.{columns_same, enclosed_same}
 
 -- an answer tells whether a rule is broken

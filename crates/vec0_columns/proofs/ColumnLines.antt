@@ -11,7 +11,7 @@ use Rattle.vec0_columns.specs.declared.text.Spelled.TheVariants.{Plain}
 use Rattle.vec0_columns.specs.declared.text.Arg.{Arg}
 use Rattle.vec0_columns.specs.declared.text.Arg.TheVariants as args
 use Rattle.vec0_columns.specs.ColumnGrammar.{integer_word, boolean_word, text_word, blob_word, stands_for, primary_key, partition_key, int8, bits, column, auxiliary, chunk_size, arg, columns, enclosed}
-use Rattle.vec0_columns.specs.inner.FactoredColumns.{key, integer_kind, text_kind, text_or_boolean, scalar_kind, kind, auxiliary_kind, factored_arg, tail, factored_columns, factored_enclosed}
+use Rattle.vec0_columns.specs.inner.FactoredColumns.{key, integer_kind, text_kind, text_or_boolean, scalar_kind, kind, auxiliary_kind, factored_arg, factored_columns, factored_enclosed}
 
 -- what holds of a column of each kind of a choice holds of the choice
 either_column : (p q : Part Spelled) (r : Part Arg) → Within (column p) r → Within (column q) r → Within (column (alt p q)) r
@@ -225,7 +225,7 @@ columns_line p q a =
     (within_many (a_mark (codes ",") ▸ p) (a_mark (codes ",") ▸ q) (within_behind (a_mark (codes ",")) p q a)))
 
 pub columns_same : Same factored_columns columns
-unfolding factored_columns columns tail
+unfolding factored_columns columns
 columns_same = record { there = columns_line factored_arg arg factored_within; back = columns_line arg factored_arg arg_within }
 
 pub enclosed_same : Same factored_enclosed enclosed

@@ -1,6 +1,6 @@
 pub mod Answering
+pub mod ColumnChoices
 pub mod ColumnLines
-pub mod ColumnLoop
 pub mod Lengths
 pub mod Narrowing
 pub mod OneSchema

@@ -6,7 +6,7 @@ use Rattle.row_model.specs.declared.schema.Schema.{Schema}
 use Rattle.vec0_columns.specs.ColumnGrammar.{Declares, schema_of}
 use Rattle.vec0_columns.specs.inner.FactoredColumns.{factored_columns}
 use Rattle.vec0_columns.proofs.ColumnLines.{columns_same}
-use Rattle.vec0_columns.proofs.ColumnLoop.{columns_decides}
+use Rattle.vec0_columns.proofs.ColumnChoices.{columns_decides}
 
 pub one_schema : (text : List ℕ) (one other : Schema) → Declares text one → Declares text other → one ≡ other
 one_schema text one other declares declares_too =

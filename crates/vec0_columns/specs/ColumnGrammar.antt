@@ -5,7 +5,7 @@ use Rattle.vec_base.specs.declared.refusal.Refusal.{Refusal}
 use Rattle.vec_base.specs.declared.refusal.Refusal.TheVariants as refusals
 use Rattle.vec_literal.specs.Tokens.{Token, tokens}
 use Rattle.grammar.specs.inner.ReaderResults.{refusal_of}
-use Rattle.grammar.specs.Grammar.{Part, one, seq, alt, opt, many, means, sign, ◌▸◌, ◌◂◌, a_word, a_mark, a_name, a_number, Spells, SpellsFront, FailsAt, FailsInside}
+use Rattle.grammar.specs.Grammar.{Part, one, seq, alt, opt, means, sign, ◌▸◌, ◌◂◌, a_word, a_mark, a_name, a_number, list_of, Spells, SpellsFront, FailsAt, FailsInside}
 use Rattle.vec_base.specs.Words.{is_name}
 use Rattle.row_model.specs.declared.schema.Column.{Column}
 use Rattle.row_model.specs.declared.schema.Kind.{Kind}
@@ -94,7 +94,7 @@ arg =
 
 -- columns = arg {, arg}
 unfoldable pub columns : Part (List Arg)
-columns = means (λ x. x.0 ∷ x.1) (seq arg (many (a_mark (codes ",") ▸ arg)))
+columns = list_of arg
 
 -- columns )
 unfoldable pub enclosed : Part (List Arg × Token)

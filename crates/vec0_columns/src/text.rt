@@ -4,9 +4,9 @@ ghost use Rattle.grammar.specs.inner.ReaderResults.{rest_of, Gives};
 ghost use Rattle.row_model.specs.declared.schema.Kind.{Kind};
 ghost use Rattle.grammar.specs.inner.Reading.{read, starts};
 ghost use Rattle.vec0_columns.specs.ColumnGrammar.{has_name, int8, bits, chunk_size, metric, integer_word, boolean_word};
-ghost use Rattle.vec0_columns.specs.inner.FactoredColumns.{key, integer_kind, text_kind, kind, scalar_kind, text_or_boolean, auxiliary_kind, factored_arg, tail, factored_columns};
+ghost use Rattle.vec0_columns.specs.inner.FactoredColumns.{key, integer_kind, text_kind, kind, scalar_kind, text_or_boolean, auxiliary_kind, factored_arg, factored_columns};
 
-use grammar::{Reader, Stop};
+use grammar::{Item, Reader, Stop, listed};
 use row_model::{Kind, Metric};
 use std::alloc::Global;
 use vec_base::{List, Txt};
@@ -246,27 +246,36 @@ fn argument(reader: &mut Reader<'_>) -> Result<Arg, Stop>
     }
 }
 
-/// Reads a comma and one of the parts.
-#[tactic(auto, unfolding(crate::specs::inner::FactoredColumns::tail))]
-fn tail(reader: &mut Reader<'_>) -> Result<Arg, Stop>
-    ensures reads { Gives (λ x. x) result (read tail (rest_of reader.old)) (rest_of reader.new) }
-    ensures named { IfOk result (λ a. has_name a ≡ true) }
-{
-    reader.mark(b",")?;
-    argument(reader)
+impl<'a> Item<'a> for Arg {
+    ghost use Rattle.std.specs.Prelude.{codes};
+    ghost use Rattle.grammar.specs.Grammar.{sign};
+    ghost use Rattle.vec0_columns.specs.ColumnGrammar.{has_name};
+    ghost use Rattle.vec0_columns.specs.inner.FactoredColumns.{factored_arg};
+
+    ghost part = { factored_arg };
+
+    ghost formed = { has_name };
+
+    ghost between = { sign (codes ",") };
+
+    fn read(_alloc: Global, reader: &mut Reader<'a>) -> Result<Arg, Stop> {
+        argument(reader)
+    }
+
+    fn at_next(reader: &Reader<'a>) -> bool {
+        reader.at_mark(b",")
+    }
+
+    fn pass(reader: &mut Reader<'a>) -> Result<(), Stop> {
+        reader.mark(b",")
+    }
 }
 
 /// Reads parts with commas between them.
+#[tactic(auto, unfolding(crate::specs::inner::FactoredColumns::factored_columns))]
 pub fn columns(alloc: Global, reader: &mut Reader<'_>) -> Result<List<Arg>, Stop>
     ensures reads { Gives (λ v. v) result (read factored_columns (rest_of reader.old)) (rest_of reader.new) }
     ensures named { IfOk result (λ v. list_all has_name v ≡ true) }
 {
-    let first = argument(reader)?;
-    let mut args = List::new(alloc);
-    args.push(first)?;
-    while reader.at_mark(b",") {
-        let next = tail(reader)?;
-        args.push(next)?;
-    }
-    Ok(args)
+    listed(alloc, reader)
 }

@@ -7,7 +7,7 @@ use Rattle.std.specs.declared.option.Option.{Option}
 use Rattle.vec_base.specs.declared.value.Op.{Op}
 use Rattle.vec_base.specs.declared.value.Op.TheVariants.{Eq, Ne, Lt, Le, Gt, Ge}
 use Rattle.vec_base.specs.declared.value.Value.{Value}
-use Rattle.vec_base.specs.declared.value.Value.TheVariants.{Null, Int, Text, Blob, Int8, Bits}
+use Rattle.vec_base.specs.declared.value.Value.TheVariants.{Int, Text, Blob}
 
 -- texts and blobs by their bytes: the first that differs decides, and a front of a list is less than the list
 abbrev pub bytes_cmp : List ℕ → List ℕ → Ordering

@@ -1,7 +1,7 @@
 -- The grammar of the column text with equal beginnings taken together, so that the next token decides each choice.
 use Rattle.std.specs.Prelude.{List, ◌∷◌, codes}
 use Rattle.vec_literal.specs.Tokens.{Token}
-use Rattle.grammar.specs.Grammar.{Part, one, seq, alt, opt, many, means, sign, ◌▸◌, a_mark}
+use Rattle.grammar.specs.Grammar.{Part, one, seq, alt, opt, means, sign, ◌▸◌, list_of}
 use Rattle.grammar.specs.inner.Reading.{or_default}
 use Rattle.row_model.specs.declared.schema.Kind.{Kind}
 use Rattle.row_model.specs.declared.schema.Kind.TheVariants as kinds
@@ -42,13 +42,9 @@ auxiliary_kind = alt (stands_for kinds.IntAux integer_word) (alt (stands_for kin
 unfoldable pub factored_arg : Part Arg
 factored_arg = alt chunk_size (alt (auxiliary auxiliary_kind) (column kind))
 
--- , arg
-unfoldable pub tail : Part Arg
-tail = a_mark (codes ",") ▸ factored_arg
-
 -- arg {, arg}
 unfoldable pub factored_columns : Part (List Arg)
-factored_columns = means (λ x. x.0 ∷ x.1) (seq factored_arg (many tail))
+factored_columns = list_of factored_arg
 
 -- columns )
 unfoldable pub factored_enclosed : Part (List Arg × Token)
