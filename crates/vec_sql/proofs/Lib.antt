@@ -1,5 +1,5 @@
 pub mod Answering
-pub mod Lists
+pub mod Filled
 pub mod Making
 pub mod Meant
 pub mod Noting

@@ -10,7 +10,7 @@ use Rattle.vec_literal.specs.ValueTexts.{quoted, blob_text}
 use Rattle.vec_literal.proofs.Int8Written.{bytes_spell}
 use Rattle.vec_literal.proofs.LiteralsBefore.{AllBytes, signed_lexemes}
 use Rattle.vec_literal.proofs.ValuesBefore.{value_lexemes, all_bytes, small_number}
-use Rattle.grammar.specs.Grammar.{Part, seq, many, means, ◌▸◌, a_word, a_mark, a_text, a_blob, a_signed_number}
+use Rattle.grammar.specs.Grammar.{Part, seq, many, list_of, means, ◌▸◌, a_word, a_mark, a_text, a_blob, a_signed_number}
 use Rattle.grammar.proofs.Lexemes.{LexemesSpell, of_means, of_word, of_mark}
 use Rattle.grammar.proofs.LexemesGive.{LexemesGive, give_known, give_seq, give_means, give_second, give_first, give_left, give_right, give_nothing, give_another}
 use Rattle.grammar.proofs.LiteralLexemes.{of_text, of_blob, of_signed_number, give_placed_text}
@@ -19,7 +19,7 @@ use Rattle.vec_sql.specs.declared.given.Given.{Given}
 use Rattle.vec_sql.specs.declared.given.Given.TheVariants as givens
 use Rattle.vec_sql.specs.GivenStatements.{concerns_of, uses_of}
 use Rattle.vec_sql.specs.StatementReading.{IsFine, Each, MeansValue}
-use Rattle.vec_sql.specs.StatementGrammar.{list_of, in_parentheses, vec_int8, vec_bit, value}
+use Rattle.vec_sql.specs.StatementGrammar.{in_parentheses, vec_int8, vec_bit, value}
 use Rattle.vec_sql.proofs.TextLexemes.{behind_lexemes, separated_lexemes, listed_lexemes}
 
 -- ---- lists

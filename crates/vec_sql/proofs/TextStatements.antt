@@ -7,7 +7,7 @@ use Rattle.std.specs.List.{list_all, flat_map, AllByRecursion}
 use Rattle.vec_base.specs.Words.{is_name}
 use Rattle.vec_base.specs.declared.value.Value.{Value}
 use Rattle.vec_literal.specs.Lexemes.{Lexeme, word_lexeme, mark_lexeme}
-use Rattle.grammar.specs.Grammar.{Part, seq, alt, opt, means, ◌▸◌, ◌◂◌, a_word, a_mark, a_name}
+use Rattle.grammar.specs.Grammar.{Part, list_of, seq, alt, opt, means, ◌▸◌, ◌◂◌, a_word, a_mark, a_name}
 use Rattle.grammar.specs.inner.Reading.{or_default}
 use Rattle.grammar.proofs.Lexemes.{LexemesSpell, of_seq, of_means, of_second, of_first, of_left, of_right, of_none, of_some, of_word, of_mark}
 use Rattle.grammar.proofs.LexemesGive.{LexemesGive, give_known, give_more, give_seq, give_means, give_second, give_first, give_left, give_right, give_none, give_some}
@@ -35,7 +35,8 @@ use Rattle.vec_sql.specs.declared.given.GivenStatement.TheVariants as statements
 use Rattle.vec_sql.specs.GivenStatements.{concerns_of, in_limit, in_select, in_groups, in_terms, in_sets, group_concerns, uses, item_count, items_in, terms_in}
 use Rattle.vec_sql.specs.inner.HeldStatements.{AreHeld, IsHeldTerm, IsHeldAssign, IsHeldLimit, IsHeldSelect, IsHeldStatement}
 use Rattle.vec_sql.specs.StatementReading.{IsFine, Each, EachOption, MeansValue, MeansTerm, MeansAssign, MeansGroup, MeansSelect, Means, AllFine, count_fault, rule_fault}
-use Rattle.vec_sql.specs.StatementGrammar.{list_of, word_for, may_say, group, by_distance, by_rowid, order, items_part, limit, select, create, drop_table, insert, update, delete, explain, begin, commit, rollback_to, rollback, savepoint, release, body, statement}
+use Rattle.vec_sql.proofs.Filled.{filled_by}
+use Rattle.vec_sql.specs.StatementGrammar.{word_for, may_say, group, by_distance, by_rowid, order, items_part, limit, select, create, drop_table, insert, update, delete, explain, begin, commit, rollback_to, rollback, savepoint, release, body, statement}
 use Rattle.vec_sql.proofs.TextLexemes.{listed_lexemes, name_lexemes, group_lexemes, items_lexemes, order_lexemes, limit_lexemes, select_lexemes, create_lexemes, insert_lexemes, update_lexemes, delete_lexemes, begin_lexemes, statement_lexemes}
 use Rattle.vec_sql.proofs.TextParts.{each_more, each_length, each_same, AllGive, list_given, ArePlain, StandsFor, value_given}
 use Rattle.vec_sql.proofs.TextTerms.{both_good, none_plain, both_plain, values_plain, values_mean, IsTerm, where_given, terms_plain, IsAssign, sets_given, sets_plain, IsRow, row_given}
@@ -144,10 +145,6 @@ select_given chosen formed held =
     (give_seq (give_known (λ (z : Order). z ≡ chosen.order) refl (order_given chosen.order)) (limit_given chosen.limit held.limit)))))))
 
 -- ---- rows
-
-filled_by : {A : Type 0} (xs : List A) → 0 < length xs → is_filled xs ≡ true
-filled_by [] h = absurd (omega arith)
-filled_by (x ∷ xs) h = refl
 
 some_by : {A : Type 0} (xs : List A) → is_filled xs ≡ true → 0 < length xs
 some_by [] h = absurd cc

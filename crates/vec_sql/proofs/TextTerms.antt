@@ -11,7 +11,7 @@ use Rattle.vec_base.specs.declared.value.Value.{Value}
 use Rattle.vec_literal.specs.Held.{IsHeld}
 use Rattle.vec_literal.specs.Lexemes.{word_lexeme, mark_lexeme}
 use Rattle.vec_literal.proofs.ValuesBefore.{value_lexemes}
-use Rattle.grammar.specs.Grammar.{Part, a_word, a_mark}
+use Rattle.grammar.specs.Grammar.{Part, list_of, a_word, a_mark}
 use Rattle.grammar.specs.inner.Reading.{or_default}
 use Rattle.grammar.proofs.Lexemes.{LexemesSpell, of_means, of_left, of_right, of_word, of_mark}
 use Rattle.grammar.proofs.LexemesGive.{LexemesGive, give_known, give_seq, give_means, give_second, give_left, give_right, give_none, give_some}
@@ -32,7 +32,7 @@ use Rattle.vec_sql.specs.CanonicalStatements.{op_text}
 use Rattle.vec_sql.specs.GivenStatements.{concerns_of, uses_of, in_test, in_terms, in_sets}
 use Rattle.vec_sql.specs.inner.HeldStatements.{AreHeld, IsHeldTest, IsHeldTerm, IsHeldAssign}
 use Rattle.vec_sql.specs.StatementReading.{IsFine, Each, MeansValue, MeansTest, MeansTerm, MeansAssign}
-use Rattle.vec_sql.specs.StatementGrammar.{list_of, or_none, value, group, op, term_of, comparison, member, match_of, term, where_part, assignment}
+use Rattle.vec_sql.specs.StatementGrammar.{or_none, value, group, op, term_of, comparison, member, match_of, term, where_part, assignment}
 use Rattle.vec_sql.proofs.TextLexemes.{listed_lexemes, group_lexemes, test_lexemes, term_lexemes, where_lexemes, assign_lexemes}
 use Rattle.vec_sql.proofs.TextParts.{each_more, AllGive, separated_given, list_given, parentheses_given, ArePlain, StandsFor, value_given}
 

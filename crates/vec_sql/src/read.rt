@@ -1,3 +1,4 @@
+//! Reading a statement.
 ghost use Rattle.std.specs.Prelude.{◌≡◌, ◌≤◌, ◌⊎◌, Err, IfErr, IfOk, Ok, true};
 ghost use Rattle.vec_base.specs.declared.refusal.Refusal.TheVariants.{WantOfMemory};
 ghost use Rattle.grammar.specs.Grammar.{Spells};
@@ -22,7 +23,7 @@ use std::alloc::Global;
 use vec_base::{List, Refusal, Value};
 
 /// What the text gives, without a look at what it means.
-fn given_of(alloc: Global, text: &[u8]) -> Result<GivenStatement, Refusal>
+fn given_of(alloc: Global, text: &[u8]) -> Result<GivenStatement<'_>, Refusal>
     ensures spelled { IfOk result (λ given. Spells statement (numbered_tokens text.now) given) }
     ensures only { (given : Spelled) → Spells statement (numbered_tokens text.now) given → (result ≡ Ok given) ⊎ (result ≡ Err WantOfMemory) }
     ensures formed { IfOk result (λ given. is_formed given ≡ true) }
@@ -64,11 +65,11 @@ pub fn read_statement(
         return Err(Refusal::Syntax(4_194_304));
     }
     let given = given_of(alloc, text)?;
-    let made = statement_of(alloc, &given, params.as_slice());
-    match parameter_fault(alloc, &given, params.as_slice()) {
-        Ok(fault) => answered(made, fault, count_fault(&given)),
-        Err(_) => Err(Refusal::WantOfMemory),
-    }
+    let Ok(fault) = parameter_fault(alloc, &given, params.as_slice()) else {
+        return Err(Refusal::WantOfMemory);
+    };
+    let count = count_fault(&given);
+    answered(statement_of(alloc, given, params.as_slice()), fault, count)
 }
 
 /// The answer, where these are the faults of the parameters and of the counts.
@@ -112,7 +113,7 @@ fn unless_later(
 }
 
 /// The number of items, or else of terms, where it is over 64.
-fn count_fault(given: &GivenStatement) -> Option<u64>
+fn count_fault(given: &GivenStatement<'_>) -> Option<u64>
     ensures { result ≡ count_fault given.now }
 {
     let items = items_in(given);
@@ -127,7 +128,7 @@ fn count_fault(given: &GivenStatement) -> Option<u64>
 }
 
 /// The number of items of a SELECT that names them.
-fn items_in(given: &GivenStatement) -> usize
+fn items_in(given: &GivenStatement<'_>) -> usize
     ensures { result ≡ items_in given.now }
 {
     match given {
@@ -148,7 +149,7 @@ fn item_count(items: &Items) -> usize
 }
 
 /// The number of terms.
-fn terms_in(given: &GivenStatement) -> usize
+fn terms_in(given: &GivenStatement<'_>) -> usize
     ensures { result ≡ terms_in given.now }
 {
     match given {
