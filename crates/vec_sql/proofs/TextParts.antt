@@ -4,9 +4,9 @@ use Rattle.std.specs.List.{flat_map, AllByRecursion}
 use Rattle.vec_base.specs.declared.value.Value.{Value}
 use Rattle.vec_base.specs.declared.value.Value.TheVariants as values
 use Rattle.vec_base.specs.Representable.{IsRepresentable}
-use Rattle.vec_literal.specs.Int8.{int8_text, SpellsInt8}
+use Rattle.vec_literal.specs.Int8.{SpellsInt8}
 use Rattle.vec_literal.specs.Lexemes.{Lexeme, word_lexeme, mark_lexeme, text_lexeme, blob_lexeme}
-use Rattle.vec_text.specs.ValueTexts.{quoted, blob_text}
+use Rattle.vec_text.specs.ValueTexts.{quoted, blob_text, int8_text}
 use Rattle.vec_literal.proofs.Int8Written.{bytes_spell}
 use Rattle.vec_literal.proofs.LiteralsBefore.{AllBytes, signed_lexemes}
 use Rattle.vec_literal.proofs.ValuesBefore.{value_lexemes, all_bytes, small_number}
