@@ -11,7 +11,7 @@ use Rattle.vec_literal.specs.declared.token.TokenSort.TheVariants as sorts
 use Rattle.vec_literal.specs.Lexemes.{Lexeme, lexeme_of, number_lexeme, mark_lexeme, text_lexeme, blob_lexeme}
 use Rattle.vec_literal.specs.Tokens.{Token}
 use Rattle.vec_literal.specs.LiteralValues.{text_value, blob_value}
-use Rattle.vec_literal.specs.ValueTexts.{quoted, blob_text}
+use Rattle.vec_text.specs.ValueTexts.{quoted, blob_text}
 use Rattle.vec_literal.proofs.Adding.{is_parameter, has_no_parameter}
 use Rattle.vec_literal.proofs.LiteralsBefore.{AllBytes, IsSmall, signed_lexemes}
 use Rattle.vec_literal.proofs.ValuesBefore.{text_back, blob_back}

@@ -13,7 +13,7 @@ use Rattle.vec_literal.specs.Held.{IsHeld}
 use Rattle.vec_literal.specs.Lexemes.{Lexeme, lexemes, word_lexeme, mark_lexeme}
 use Rattle.vec_literal.specs.inner.Stretches.{is_pair, is_single}
 use Rattle.vec_literal.specs.Tokens.{is_word_text}
-use Rattle.vec_literal.specs.ValueTexts.{value_text}
+use Rattle.vec_text.specs.ValueTexts.{value_text}
 use Rattle.vec_literal.proofs.Following.{HasTokens, whole_text, has_nothing, space_before, word_before, mark_before, ends_word, unpaired}
 use Rattle.vec_literal.proofs.LiteralsBefore.{pair_before, is_lone, lone_before, signed_lexemes}
 use Rattle.vec_literal.proofs.ValuesBefore.{value_lexemes, ends_value, ended_word, value_before}

@@ -1,14 +1,15 @@
 -- What text and blob literals enclose.
-use Rattle.std.proofs.Common.{◌≡◌, ℕ, ◌+◌, ◌-◌, ◌*◌, ◌/◌, ◌%◌, ◌<◌, ◌≤◌, length, take, drop, Bool, true, false, not, inl, inr, List, [], ◌∷◌, ◌++◌, Option, Some, None, refl, sym, ◌∙◌, ap, subst, arith, length-append, append_assoc, get_or}
+use Rattle.std.proofs.Common.{◌≡◌, ℕ, suc, cond, min, ◌+◌, ◌-◌, ◌*◌, ◌/◌, ◌%◌, ◌<◌, ◌≤◌, length, take, drop, Bool, true, false, not, inl, inr, List, [], ◌∷◌, ◌++◌, Option, Some, None, refl, sym, ◌∙◌, ap, subst, arith, length-append, length-drop, append_assoc, get_or}
 use Rattle.std.specs.Prelude.{◌==◌, if◌then◌else◌, slice_range}
 use Rattle.std.specs.Option.{option_map, option_map_or, unwrap_or}
 use Rattle.std.specs.Char.{digit_value}
 use Rattle.std.specs.Str.{IsUtf8, is_utf8}
 use Rattle.std.proofs.lemmas.Bool.Decides.{nat_tests}
-use Rattle.std.proofs.lemmas.Bool.{and_parts, and_from, cond-true, cond-false, cases_Bool, eqb-true, not-true}
-use Rattle.std.proofs.lemmas.List.{take_at, drop_more}
+use Rattle.std.proofs.lemmas.Bool.{and_parts, and_from, cond-true, cond-false, cases_Bool, cases_lt, eqb-true, not-true}
+use Rattle.std.proofs.lemmas.List.{take_at, take_rest, drop_all, length-take}
 use Rattle.std.proofs.lemmas.Str.{IsUtf8-from_is_utf8}
-use Rattle.std.specs.List.{list_all}
+use Rattle.std.specs.List.{list_all, prefix_len}
+use Rattle.vec_literal.specs.inner.Stretches.{is_plain}
 use Rattle.hex.specs.Hex.{hex_digit_value}
 use Rattle.vec_literal.specs.Bits.{SpellsBits}
 use Rattle.vec_literal.specs.Int8.{SpellsInt8}
@@ -171,24 +172,72 @@ blob_spelled literal bytes h s =
     ap (λ (n : ℕ). take n (drop 2 literal)) size ∙ (ap (λ (z : List ℕ). take (length p.digits) z) p.rest ∙ take_at p.digits (39 ∷ []) (length p.digits) refl) in
     sym (ap (λ (z : List ℕ). paired_bytes z) p.rest ∙ pairs_front p.digits bytes (subst (λ (z : List ℕ). SpellsBits z bytes) digits s))
 
--- ---- doubled quotes, byte by byte
+-- ---- doubled quotes, part by part
 
 -- the second quote of two is passed over
-pub second_passed : (front items quoted : List ℕ) (second next : Bool) (i : ℕ) → i < length quoted → second ≡ true → next ≡ false → items ≡ front →
-    front ++ undoubled second (drop i quoted) ≡ undoubled false quoted → items ++ undoubled next (drop (i + 1) quoted) ≡ undoubled false quoted
-second_passed front items quoted second next i l s n e h =
-    ap (λ (z : Bool). items ++ undoubled z (drop (i + 1) quoted)) n ∙
-    (ap (λ (z : List ℕ). z ++ undoubled false (drop (i + 1) quoted)) e ∙
-    (sym (ap (λ (z : Bool). front ++ undoubled z (drop i quoted)) s ∙ ap (λ (z : List ℕ). front ++ undoubled true z) (drop_more quoted i 0 l)) ∙ h))
+behind_quote : (bytes : List ℕ) → undoubled true bytes ≡ undoubled false (drop 1 bytes)
+behind_quote [] = refl
+behind_quote (b ∷ bytes) = refl
 
--- any other byte is taken over
-pub byte_taken : (front items quoted : List ℕ) (second next : Bool) (i : ℕ) → i < length quoted → second ≡ false → next ≡ (get_or quoted i 0 == 39) → items ≡ front ++ get_or quoted i 0 ∷ [] →
-    front ++ undoubled second (drop i quoted) ≡ undoubled false quoted → items ++ undoubled next (drop (i + 1) quoted) ≡ undoubled false quoted
-byte_taken front items quoted second next i l s n e h =
-    ap (λ (z : Bool). items ++ undoubled z (drop (i + 1) quoted)) n ∙
-    (ap (λ (z : List ℕ). z ++ undoubled (get_or quoted i 0 == 39) (drop (i + 1) quoted)) e ∙
-    (append_assoc front (get_or quoted i 0 ∷ []) (undoubled (get_or quoted i 0 == 39) (drop (i + 1) quoted)) ∙
-    (sym (ap (λ (z : Bool). front ++ undoubled z (drop i quoted)) s ∙ ap (λ (z : List ℕ). front ++ undoubled false z) (drop_more quoted i 0 l)) ∙ h)))
+-- how many bytes stand before the first quote, by the first byte
+
+quote_here : (b : ℕ) (bytes : List ℕ) → (b == 39) ≡ true → prefix_len is_plain (b ∷ bytes) ≡ 0
+quote_here b bytes h = ap (λ (z : Bool). cond (not z) (1 + prefix_len is_plain bytes) 0) h
+
+quote_later : (b : ℕ) (bytes : List ℕ) → (b == 39) ≡ false → prefix_len is_plain (b ∷ bytes) ≡ suc (prefix_len is_plain bytes)
+quote_later b bytes h = ap (λ (z : Bool). cond (not z) (1 + prefix_len is_plain bytes) 0) h ∙ (let e : 1 + prefix_len is_plain bytes ≡ suc (prefix_len is_plain bytes) = omega arith in e)
+
+-- what stands up to the first quote is taken over, and the quote behind it is passed over
+quote_taken : (left : List ℕ) → prefix_len is_plain left < length left →
+    take (prefix_len is_plain left + 1) left ++ undoubled false (drop (prefix_len is_plain left + 2) left) ≡ undoubled false left
+quote_taken [] within = absurd (omega arith)
+quote_taken (b ∷ bytes) within =
+    elim (cases_Bool (b == 39)) [
+      | inl quote ↦
+          ap (λ (n : ℕ). take (n + 1) (b ∷ bytes) ++ undoubled false (drop (n + 2) (b ∷ bytes))) (quote_here b bytes quote)
+          ∙ ap (λ (z : List ℕ). b ∷ z) (sym (behind_quote bytes))
+          ∙ ap (λ (second : Bool). b ∷ undoubled second bytes) (sym quote)
+      | inr other ↦
+          (let n : ℕ = prefix_len is_plain bytes in
+          let one : suc n + 1 ≡ suc (n + 1) = omega arith in
+          let two : suc n + 2 ≡ suc (n + 2) = omega arith in
+          ap (λ (m : ℕ). take (m + 1) (b ∷ bytes) ++ undoubled false (drop (m + 2) (b ∷ bytes))) (quote_later b bytes other)
+          ∙ ap (λ (m : ℕ). take m (b ∷ bytes) ++ undoubled false (drop (suc n + 2) (b ∷ bytes))) one
+          ∙ ap (λ (m : ℕ). (b ∷ take (n + 1) bytes) ++ undoubled false (drop m (b ∷ bytes))) two
+          ∙ ap (λ (z : List ℕ). b ∷ z) (quote_taken bytes (omega (arith, quote_later b bytes other)))
+          ∙ ap (λ (second : Bool). b ∷ undoubled second bytes) (sym other))
+    ]
+
+-- without a quote all is taken over
+none_taken : (left : List ℕ) → prefix_len is_plain left ≡ length left → undoubled false left ≡ left
+none_taken [] none = refl
+none_taken (b ∷ bytes) none =
+    elim (cases_Bool (b == 39)) [
+      | inl quote ↦ absurd (omega (arith, quote_here b bytes quote))
+      | inr other ↦ ap (λ (second : Bool). b ∷ undoubled second bytes) other ∙ ap (λ (z : List ℕ). b ∷ z) (none_taken bytes (omega (arith, quote_later b bytes other)))
+    ]
+
+drop_least : (n : ℕ) (left : List ℕ) → drop (min (length left) n) left ≡ drop n left
+drop_least n left = elim (cases_lt n (length left)) [
+  | inl less ↦ ap (λ (m : ℕ). drop m left) (let e : min (length left) n ≡ n = omega arith in e)
+  | inr more ↦ ap (λ (m : ℕ). drop m left) (let e : min (length left) n ≡ length left = omega (arith, more) in e) ∙ drop_all (length left) left (omega arith) ∙ sym (drop_all n left (omega (arith, more)))
+]
+
+pub part_taken : (taken items left whole : List ℕ) (n m : ℕ) → n ≡ prefix_len is_plain left → n < length left → m ≡ min (length left) (n + 2) → items ≡ taken ++ take (n + 1) left →
+    taken ++ undoubled false left ≡ whole → items ++ undoubled false (take (length left - m) (drop m left)) ≡ whole
+part_taken taken items left whole n m is within count more so_far =
+    ap (λ (z : List ℕ). z ++ undoubled false (take (length left - m) (drop m left))) more
+    ∙ append_assoc taken (take (n + 1) left) _
+    ∙ ap (λ (z : List ℕ). taken ++ (take (n + 1) left ++ undoubled false z)) (take_rest left m ∙ ap (λ (k : ℕ). drop k left) count ∙ drop_least (n + 2) left)
+    ∙ ap (λ (m : ℕ). taken ++ (take (m + 1) left ++ undoubled false (drop (m + 2) left))) is
+    ∙ ap (λ (z : List ℕ). taken ++ z) (quote_taken left (let w : prefix_len is_plain left < length left = subst (λ (m : ℕ). m < length left) is within in w))
+    ∙ so_far
+
+pub still_inside : (left whole : List ℕ) (n m : ℕ) → length left ≤ length whole → length (take n (drop m left)) ≤ length whole
+still_inside left whole n m h = omega (arith, h, length-take n (drop m left), length-drop m left)
+
+pub rest_taken : (taken items left whole : List ℕ) (n : ℕ) → n ≡ prefix_len is_plain left → n ≡ length left → items ≡ taken ++ left → taken ++ undoubled false left ≡ whole → items ≡ whole
+rest_taken taken items left whole n is all more so_far = more ∙ ap (λ (z : List ℕ). taken ++ z) (sym (none_taken left (sym is ∙ all))) ∙ so_far
 
 -- ---- int8 literals between quotes
 

@@ -13,7 +13,7 @@ use Rattle.vec_literal.specs.declared.int8.Number.{Number}
 use Rattle.vec_literal.specs.declared.int8.Stage.{Stage}
 use Rattle.vec_literal.specs.declared.int8.Stage.TheVariants.{Start, Opened, Comma, Minus, Digits, Between, Closed}
 use Rattle.vec_literal.specs.declared.int8.Reader.{Reader}
-use Rattle.vec_literal.specs.inner.Int8Reading.{byte_of, more_digits, stage_after, next_digit, with_element, ended, read_byte, read_bytes, reader_at}
+use Rattle.vec_literal.specs.inner.Int8Reading.{byte_of, more_digits, is_due, takes, stage_after, next_digit, with_element, ended, read_byte, read_bytes, reader_at}
 use Rattle.vec_literal.proofs.Int8Kept.{digit_range, Shows, first_shows, more_below, more_above, more_shows, FitsAs, shown_fits, Kept, element_kept}
 use Rattle.vec_literal.proofs.Int8Sound.{end_stage}
 
@@ -43,7 +43,7 @@ rests Minus = false
 rests (Digits n) = false
 rests _ = true
 
-space_stays : (s : Stage) (r : Reader) (b : ℕ) → rests s ≡ true → is_space b ≡ true → read_byte (moved r s) b ≡ Some (moved r s)
+pub space_stays : (s : Stage) (r : Reader) (b : ℕ) → rests s ≡ true → is_space b ≡ true → read_byte (moved r s) b ≡ Some (moved r s)
 space_stays Start r b e h = by_space (λ c. read_byte (moved r Start) c ≡ Some (moved r Start)) refl refl refl refl b h
 space_stays Opened r b e h = by_space (λ c. read_byte (moved r Opened) c ≡ Some (moved r Opened)) refl refl refl refl b h
 space_stays Comma r b e h = by_space (λ c. read_byte (moved r Comma) c ≡ Some (moved r Comma)) refl refl refl refl b h
@@ -79,32 +79,26 @@ by_ascii P a b c d e f g h i j n k =
     let same : 48 + (n - 48) ≡ n = omega (arith, r.0) in
     subst P same (by_digit (λ m. P (48 + m)) a b c d e f g h i j (n - 48) (omega (arith, r.1)))
 
--- a stage at which the digits of a number of this sign begin
-abbrev pub takes : Stage → Bool → Bool
-takes Opened false = true
-takes Comma false = true
-takes Minus true = true
-takes _ _ = false
-
 -- the reader within a number
 abbrev pub within : Reader → Bool → ℕ → Reader
 within r negative m = moved r (Digits (record { negative = negative; magnitude = m }))
 
 -- the first digit
-abbrev FirstRead : Stage → Bool → Reader → ℕ → Type 0
+abbrev pub FirstRead : Stage → Bool → Reader → ℕ → Type 0
 FirstRead s negative r b = read_byte (moved r s) b ≡ Some (within r negative (b - 48))
 
-first_read : (s : Stage) (negative : Bool) (r : Reader) (b : ℕ) → takes s negative ≡ true → is_ascii_digit b ≡ true → FirstRead s negative r b
+pub first_read : (s : Stage) (negative : Bool) (r : Reader) (b : ℕ) → takes negative s ≡ true → is_ascii_digit b ≡ true → FirstRead s negative r b
 first_read Opened false r b e h = by_ascii (FirstRead Opened false r) refl refl refl refl refl refl refl refl refl refl b h
 first_read Comma false r b e h = by_ascii (FirstRead Comma false r) refl refl refl refl refl refl refl refl refl refl b h
 first_read Minus true r b e h = by_ascii (FirstRead Minus true r) refl refl refl refl refl refl refl refl refl refl b h
-first_read _ _ r b e h = absurd (let f : false ≡ true = e in cc)
+first_read _ false r b e h = absurd (let f : false ≡ true = e in cc)
+first_read _ true r b e h = absurd (let f : false ≡ true = e in cc)
 
 -- each further digit
-abbrev NextRead : Bool → ℕ → Reader → ℕ → Type 0
+abbrev pub NextRead : Bool → ℕ → Reader → ℕ → Type 0
 NextRead negative m r b = read_byte (within r negative m) b ≡ Some (within r negative (more_digits m b))
 
-next_read : (negative : Bool) (m : ℕ) (r : Reader) (b : ℕ) → 0 < m → is_ascii_digit b ≡ true → NextRead negative m r b
+pub next_read : (negative : Bool) (m : ℕ) (r : Reader) (b : ℕ) → 0 < m → is_ascii_digit b ≡ true → NextRead negative m r b
 next_read negative m r b some h =
     let n : Number = record { negative = negative; magnitude = m } in
     let positive : eqb m 0 ≡ false = ne_eqb m 0 (λ e. omega arith) in
@@ -139,7 +133,7 @@ digits_read (d ∷ ds) r negative m v rest h some s =
     (t.0, t.1, reads_on (within r negative m) (within r negative (more_digits m d)) d (ds ++ rest) (next_read negative m r d some p.0) ∙ t.2)
 
 -- the digits of a number
-number_read : (ds : List ℕ) (s : Stage) (negative : Bool) (r : Reader) (rest : List ℕ) → takes s negative ≡ true → is_digits ds ≡ true →
+number_read : (ds : List ℕ) (s : Stage) (negative : Bool) (r : Reader) (rest : List ℕ) → takes negative s ≡ true → is_digits ds ≡ true →
     (k : ℕ) × Shows k (digits_value 10 ds) × (read_bytes (moved r s) (ds ++ rest) ≡ read_bytes (within r negative k) rest)
 number_read [] s negative r rest e h = absurd (let f : false ≡ true = h in cc)
 number_read (d ∷ []) s negative r rest e h =
@@ -151,23 +145,18 @@ number_read (d ∷ c ∷ ds) s negative r rest e h =
     (t.0, t.1, reads_on (moved r s) (within r negative (d - 48)) d ((c ∷ ds) ++ rest) (first_read s negative r d e q.0) ∙ t.2)
 
 -- a stage at which an element may begin
-abbrev pub is_due : Stage → Bool
-is_due Opened = true
-is_due Comma = true
-is_due _ = false
-
 due_rests : (s : Stage) → is_due s ≡ true → rests s ≡ true
 due_rests Opened h = refl
 due_rests Comma h = refl
 due_rests _ h = absurd (let f : false ≡ true = h in cc)
 
 -- the sign and the digits of an element
-sign_read : (s : Stage) (r : Reader) → is_due s ≡ true → read_byte (moved r s) 45 ≡ Some (moved r Minus)
+pub sign_read : (s : Stage) (r : Reader) → is_due s ≡ true → read_byte (moved r s) 45 ≡ Some (moved r Minus)
 sign_read Opened r h = refl
 sign_read Comma r h = refl
 sign_read _ r h = absurd (let f : false ≡ true = h in cc)
 
-due_takes : (s : Stage) → is_due s ≡ true → takes s false ≡ true
+pub due_takes : (s : Stage) → is_due s ≡ true → takes false s ≡ true
 due_takes Opened h = refl
 due_takes Comma h = refl
 due_takes _ h = absurd (let f : false ≡ true = h in cc)
@@ -198,7 +187,7 @@ abbrev pub added : Reader → Number → Reader
 added r n = with_element (moved r (Digits n)) n
 
 -- such a byte behind a number, and behind white space
-number_ends : (r : Reader) (n : Number) (b : ℕ) (next : Stage) → Ends b next → read_byte (moved r (Digits n)) b ≡ Some (moved (added r n) next)
+pub number_ends : (r : Reader) (n : Number) (b : ℕ) (next : Stage) → Ends b next → read_byte (moved r (Digits n)) b ≡ Some (moved (added r n) next)
 number_ends r n b next h =
     let with_it : ended (moved r (Digits n)) b ≡ added r n = cond-false (is_ascii_digit b) _ _ h.no_digit in
     ap (λ (t : Reader). option_map (λ s. moved t s) (stage_after (Digits n) b)) with_it

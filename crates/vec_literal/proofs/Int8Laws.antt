@@ -88,7 +88,7 @@ then_more : (o : Option Reader) (p q : List ℕ) (t : Reader) → ((u : Reader) 
 then_more (Some u) p q t h e = h u e
 then_more None p q t h e = absurd (let none : no_reader ≡ Some t = e in cc)
 
-read_more : (p q : List ℕ) (r t : Reader) → read_bytes r p ≡ Some t → read_bytes r (p ++ q) ≡ read_bytes t q
+pub read_more : (p q : List ℕ) (r t : Reader) → read_bytes r p ≡ Some t → read_bytes r (p ++ q) ≡ read_bytes t q
 read_more [] q r t e = ap (λ (u : Reader). read_bytes u q) (same_reader r t e)
 read_more (b ∷ p) q r t e = then_more (read_byte r b) p q t (λ u k. read_more p q u t k) e
 
@@ -102,11 +102,14 @@ read_begun [] q r t e = (r, refl)
 read_begun (b ∷ p) q r t e = then_begun (read_byte r b) p q t (λ u k. read_begun p q u t k) e
 
 -- one byte more of a text
-pub reads_next : (text : List ℕ) (r t : Reader) (i : ℕ) → i < length text → Reads (take i text) r → read_byte r (get_or text i 0) ≡ Some t → Reads (take (i + 1) text) t
-reads_next text r t i h e k =
-    ap (λ (x : List ℕ). read_bytes (reader_at Start []) x) (take_more text i 0 h)
-    ∙ read_more (take i text) (get_or text i 0 ∷ []) (reader_at Start []) r e
+pub reads_on_by : (start : Reader) (text : List ℕ) (r t : Reader) (i : ℕ) → i < length text → read_bytes start (take i text) ≡ Some r → read_byte r (get_or text i 0) ≡ Some t → read_bytes start (take (i + 1) text) ≡ Some t
+reads_on_by start text r t i h e k =
+    ap (λ (x : List ℕ). read_bytes start x) (take_more text i 0 h)
+    ∙ read_more (take i text) (get_or text i 0 ∷ []) start r e
     ∙ ap (λ (o : Option Reader). option_and_then (λ next. read_bytes next []) o) k
+
+pub reads_next : (text : List ℕ) (r t : Reader) (i : ℕ) → i < length text → Reads (take i text) r → read_byte r (get_or text i 0) ≡ Some t → Reads (take (i + 1) text) t
+reads_next text r t i h e k = reads_on_by (reader_at Start []) text r t i h e k
 
 -- the texts that can go on are those that are read
 
@@ -227,7 +230,7 @@ ok_only text v zs e l (Range j) (ys, list, first) = absurd (misfit_not_all ys j 
 ok_only text v zs e l OddHex k = absurd k
 ok_only text v zs e l Memory k = absurd k
 
-ok_answers : (text v : List ℕ) → Reads text (reader_at Closed v) → Answers text (Ok v)
+pub ok_answers : (text v : List ℕ) → Reads text (reader_at Closed v) → Answers text (Ok v)
 ok_answers text v e =
     let (zs, stands, kept) = read_stands text _ e in
     record {

@@ -1,29 +1,15 @@
 -- The literal that is written spells its vector.
-use Rattle.std.proofs.Common.{◌≡◌, ℕ, suc, ◌^◌, ◌<◌, inl, inr, List, [], ◌∷◌, ◌++◌, ◌-◌, ◌≤◌, length, take, drop, map, get_or, All, refl, sym, ◌∙◌, ap, subst, Fits, arith}
+use Rattle.std.proofs.Common.{◌≡◌, ℕ, suc, ◌^◌, ◌<◌, inl, inr, List, [], ◌∷◌, map, get_or, All, refl, sym, ◌∙◌, ap, subst, Fits, arith}
 use Rattle.std.specs.Prelude.{ℤ, pos, negsuc, ◌-ℤ◌}
 use Rattle.std.specs.Fmt.{decimal, signed_decimal}
 use Rattle.std.specs.Int.{w8, cast_signed, cast_unsigned}
 use Rattle.std.proofs.lemmas.Int.{ints, of_z-to_z}
-use Rattle.std.proofs.Math.Seq.{take-length}
-use Rattle.std.specs.List.{flat_map}
 use Rattle.std.proofs.lemmas.List.{append-nil}
 use Rattle.std.proofs.lemmas.List.Elements.{All-head, All-tail, All-nil, All-cons, All-from_get_or}
-use Rattle.vec_literal.specs.Int8.{SpellsNumber, SpellsElement, SpellsElements, SpellsInside, IsElement, SpellsInt8, elements_text, int8_text}
+use Rattle.vec_literal.specs.Int8.{SpellsNumber, SpellsElement, SpellsElements, SpellsInside, IsElement, SpellsInt8}
+use Rattle.vec_text.specs.ValueTexts.{element_text, elements_text, int8_text}
 use Rattle.vec_literal.proofs.Int8Digits.{plain_spelled, minus_spelled}
 use Rattle.vec_literal.proofs.Int8Elements.{bare_element}
-
--- the elements of a vector, by the first
-pub elements_whole : (b : ℕ) (bs : List ℕ) → elements_text (b ∷ bs) ≡ signed_decimal (cast_signed w8 b) ++ flat_map (λ c. 44 ∷ signed_decimal (cast_signed w8 c)) bs
-elements_whole b [] = sym (append-nil (signed_decimal (cast_signed w8 b)))
-elements_whole b (c ∷ cs) = ap (λ (z : List ℕ). signed_decimal (cast_signed w8 b) ++ 44 ∷ z) (elements_whole c cs)
-
--- the same of a vector with an element
-pub elements_by : (vector : List ℕ) → 1 ≤ length vector →
-    elements_text vector ≡ signed_decimal (cast_signed w8 (get_or vector 0 0)) ++ flat_map (λ c. 44 ∷ signed_decimal (cast_signed w8 c)) (take (length vector - 1) (drop 1 vector))
-elements_by [] some = absurd (omega arith)
-elements_by (b ∷ bs) some =
-    let count : length (b ∷ bs) - 1 ≡ length bs = omega arith in
-    elements_whole b bs ∙ ap (λ (z : List ℕ). signed_decimal (cast_signed w8 b) ++ flat_map (λ c. 44 ∷ signed_decimal (cast_signed w8 c)) z) (sym (ap (λ (n : ℕ). take n bs) count ∙ take-length bs))
 
 -- the decimal text of an element spells it
 number_spelled : (z : ℤ) → IsElement z → SpellsNumber (signed_decimal z) z
@@ -52,7 +38,7 @@ byte_spelled b h = bare_element (signed_decimal (cast_signed w8 b)) (cast_signed
 
 -- the text of elements spells their numbers
 elements_spelled : (b : ℕ) (bs : List ℕ) → AreBytes (b ∷ bs) → SpellsElements (elements_text (b ∷ bs)) (map (cast_signed w8) (b ∷ bs))
-elements_spelled b [] h = byte_spelled b (head_byte b [] h)
+elements_spelled b [] h = subst (λ (text : List ℕ). SpellsElement text (cast_signed w8 b)) (sym (append-nil (element_text b))) (byte_spelled b (head_byte b [] h))
 elements_spelled b (c ∷ cs) h =
     (signed_decimal (cast_signed w8 b), elements_text (c ∷ cs), refl, byte_spelled b (head_byte b (c ∷ cs) h), elements_spelled c cs (tail_bytes b (c ∷ cs) h))
 

@@ -1,7 +1,6 @@
 pub mod Adding
 pub mod BitsLaws
 pub mod Decimals
-pub mod Doubling
 pub mod Enclosed
 pub mod Following
 pub mod Int8Complete
@@ -10,14 +9,15 @@ pub mod Int8Elements
 pub mod Int8Kept
 pub mod Int8Laws
 pub mod Int8Sound
+pub mod Int8Usual
 pub mod Int8Worked
 pub mod Int8Written
 pub mod Lexing
 pub mod LiteralsBefore
 pub mod Marks
+pub mod QuoteSearch
 pub mod Quoted
 pub mod Runs
 pub mod Sorts
 pub mod Texts
 pub mod ValuesBefore
-pub mod Written

@@ -17,7 +17,8 @@ use Rattle.vec_literal.specs.declared.token.TokenSort.TheVariants as sorts
 use Rattle.vec_literal.specs.Lexemes.{Lexeme, number_lexeme, mark_lexeme, text_lexeme, blob_lexeme}
 use Rattle.vec_literal.specs.inner.Stretches.{sort_at, is_single, is_pair, is_quoted_text, EndsAt}
 use Rattle.vec_literal.specs.Tokens.{is_white, is_mark_text, begins_blob, is_hex_to_quote, is_spelling, unquoted, enclosed}
-use Rattle.vec_literal.specs.ValueTexts.{doubled, quoted, hex_text, blob_text}
+use Rattle.hex.specs.Hex.{encode_upper, encode_with}
+use Rattle.vec_text.specs.ValueTexts.{doubled, quoted, blob_text}
 use Rattle.vec_literal.proofs.Decimals.{decimal_number}
 use Rattle.vec_literal.proofs.Following.{HasTokens, at_seam, past_seam, longer, front_slice, token_step, token_there, stops, unpaired, number_before, mark_before}
 use Rattle.vec_literal.proofs.Marks.{pair_ends}
@@ -151,24 +152,25 @@ byte_hex : (b : ℕ) → b < 2 ^ 8 → (is_ascii_hexdigit (upper_digit (b / 16))
 byte_hex b few = and_from _ _ (upper_hex (b / 16) (omega (arith, few))) (upper_hex (b % 16) (omega (arith, few)))
 
 -- behind pairs of digits stands what ends them
-hex_over : (bytes rest : List ℕ) → AllBytes bytes → is_hex_to_quote (hex_text bytes ++ rest) ≡ is_hex_to_quote rest
+hex_over : (bytes rest : List ℕ) → AllBytes bytes → is_hex_to_quote (encode_upper bytes ++ rest) ≡ is_hex_to_quote rest
+unfolding encode_with
 hex_over [] rest h = refl
 hex_over (b ∷ bs) rest h =
-    ap (λ (z : Bool). z && is_hex_to_quote (hex_text bs ++ rest)) (byte_hex b (All-head (λ c. c < 2 ^ 8) b bs h))
+    ap (λ (z : Bool). z && is_hex_to_quote (encode_upper bs ++ rest)) (byte_hex b (All-head (λ c. c < 2 ^ 8) b bs h))
     ∙ hex_over bs rest (All-tail (λ c. c < 2 ^ 8) b bs h)
 
-hex_longest : (bytes rest : List ℕ) → AllBytes bytes → (k : ℕ) → 0 < k → k ≤ length rest → is_hex_to_quote ((hex_text bytes ++ 39 ∷ []) ++ take k rest) ≡ true → ⊥
+hex_longest : (bytes rest : List ℕ) → AllBytes bytes → (k : ℕ) → 0 < k → k ≤ length rest → is_hex_to_quote ((encode_upper bytes ++ 39 ∷ []) ++ take k rest) ≡ true → ⊥
 hex_longest bytes rest b zero some few h = absurd (omega arith)
 hex_longest bytes [] b (suc k) some few h = absurd (omega arith)
 hex_longest bytes (c ∷ cs) b (suc k) some few h =
-    both_ways _ (hex_over bytes (39 ∷ c ∷ take k cs) b) (sym (ap (λ (z : List ℕ). is_hex_to_quote z) (append_assoc (hex_text bytes) (39 ∷ []) (c ∷ take k cs))) ∙ h)
+    both_ways _ (hex_over bytes (39 ∷ c ∷ take k cs) b) (sym (ap (λ (z : List ℕ). is_hex_to_quote z) (append_assoc (encode_upper bytes) (39 ∷ []) (c ∷ take k cs))) ∙ h)
 
-hex_tail : (bytes rest : List ℕ) → AllBytes bytes → IsTail is_hex_to_quote (hex_text bytes ++ 39 ∷ []) rest
+hex_tail : (bytes rest : List ℕ) → AllBytes bytes → IsTail is_hex_to_quote (encode_upper bytes ++ 39 ∷ []) rest
 hex_tail bytes rest b = record { passed = hex_over bytes (39 ∷ []) b; longest = hex_longest bytes rest b }
 
 pub blob_before : (bytes rest : List ℕ) (words : List Lexeme) → AllBytes bytes → HasTokens rest words → HasTokens (blob_text bytes ++ rest) (blob_lexeme (blob_text bytes) ∷ words)
 blob_before bytes rest words b h =
-    let tail : List ℕ = hex_text bytes ++ 39 ∷ [] in
+    let tail : List ℕ = encode_upper bytes ++ 39 ∷ [] in
     record {
       behind = λ before. token_step sorts.BlobLit before 88 (39 ∷ tail) rest words h refl
           (token_there sorts.BlobLit before (88 ∷ 39 ∷ (tail ++ rest)) 88 (39 ∷ (tail ++ rest)) (length before + length (88 ∷ 39 ∷ tail)) refl refl

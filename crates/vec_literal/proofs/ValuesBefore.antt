@@ -1,6 +1,6 @@
 -- What the text of a value in front of some bytes adds to their tokens, and what the literals in it stand for.
-use Rattle.std.proofs.Common.{◌≡◌, ℕ, length, inl, inr, ◌/◌, ◌%◌, ◌<◌, ◌^◌, Bool, true, not, ◌||◌, ◌==◌, List, [], ◌∷◌, ◌++◌, codes, refl, sym, ◌∙◌, ap, subst, arith, append_assoc}
-use Rattle.std.specs.Prelude.{FitsSigned, ℤ, pos, negsuc, slice_index}
+use Rattle.std.proofs.Common.{◌≡◌, ℕ, length, inl, inr, ◌<◌, ◌^◌, Bool, true, not, ◌||◌, ◌==◌, List, [], ◌∷◌, ◌++◌, codes, refl, sym, ◌∙◌, ap, subst, arith, append_assoc}
+use Rattle.std.specs.Prelude.{FitsSigned, ℤ, pos, negsuc}
 use Rattle.std.proofs.lemmas.Bool.{and_parts, cond-false, not-true, cases_lt}
 use Rattle.std.proofs.lemmas.Bool.Decides.{nat_tests}
 use Rattle.std.proofs.lemmas.Fmt.{IsAscii-signed}
@@ -16,16 +16,16 @@ use Rattle.std.specs.Int.Signed.{mag}
 use Rattle.std.specs.List.{list_all}
 use Rattle.std.specs.Option.{unwrap_or}
 use Rattle.std.specs.Str.{IsAscii, IsUtf8}
-use Rattle.hex.specs.Hex.{IsBytes, encode_with, upper_digits, encode_upper}
+use Rattle.hex.specs.Hex.{IsBytes, encode_upper}
 use Rattle.hex.proofs.HexLemmas.{decode_of-encode_upper}
 use Rattle.vec_base.specs.declared.value.Value.{Value}
 use Rattle.vec_base.specs.declared.value.Value.TheVariants.{Null, Int, Text, Blob, Int8, Bits}
 use Rattle.vec_literal.specs.Bits.{SpellsBits}
 use Rattle.vec_literal.specs.Held.{AreBytes, IsHeld}
-use Rattle.vec_literal.specs.Int8.{IsElement, elements_text, int8_text}
+use Rattle.vec_literal.specs.Int8.{IsElement}
 use Rattle.vec_literal.specs.Lexemes.{Lexeme, word_lexeme, mark_lexeme, text_lexeme, blob_lexeme}
 use Rattle.vec_literal.specs.LiteralValues.{text_value, blob_value}
-use Rattle.vec_literal.specs.ValueTexts.{doubled, quoted, hex_text, blob_text, value_text}
+use Rattle.vec_text.specs.ValueTexts.{doubled, quoted, element_text, elements_text, int8_text, blob_text, value_text}
 use Rattle.vec_literal.proofs.BitsLaws.{decoded_spelled}
 use Rattle.vec_literal.proofs.Enclosed.{pairs_front}
 use Rattle.vec_literal.proofs.Following.{HasTokens, word_before, stops, ends_word}
@@ -35,20 +35,15 @@ use Rattle.vec_literal.proofs.LiteralsBefore.{AllBytes, IsSmall, signed_lexemes,
 
 -- ---- vectors
 
--- the digits of bytes spell them
-hex_encoded : (bytes : List ℕ) → encode_upper bytes ≡ hex_text bytes
-unfolding encode_with
-hex_encoded [] = refl
-hex_encoded (b ∷ bs) = ap (λ (z : List ℕ). slice_index upper_digits (b / 16) ∷ slice_index upper_digits (b % 16) ∷ z) (hex_encoded bs)
-
 are_bytes : (bytes : List ℕ) → AllBytes bytes → IsBytes bytes
 are_bytes bytes h i = elim (cases_lt i (length bytes)) [
   | inl inside ↦ All-get_or (λ b. b < 2 ^ 8) bytes i 0 inside h
   | inr outside ↦ omega (arith, get_or_past bytes i 0 (omega (arith, outside)))
 ]
 
-pub hex_spells : (bytes : List ℕ) → AllBytes bytes → SpellsBits (hex_text bytes) bytes
-hex_spells bytes h = subst (λ (t : List ℕ). SpellsBits t bytes) (hex_encoded bytes) (decoded_spelled (encode_upper bytes) bytes (decode_of-encode_upper bytes (are_bytes bytes h)))
+-- the digits of bytes spell them
+pub hex_spells : (bytes : List ℕ) → AllBytes bytes → SpellsBits (encode_upper bytes) bytes
+hex_spells bytes h = decoded_spelled (encode_upper bytes) bytes (decode_of-encode_upper bytes (are_bytes bytes h))
 
 -- the text of an int8 vector is ASCII, and no byte of it is a quote
 
@@ -61,7 +56,7 @@ signed_ascii b few = IsAscii-signed (cast_signed w8 b) (small (cast_signed w8 b)
 
 elements_ascii : (vector : List ℕ) → AllBytes vector → IsAscii (elements_text vector)
 elements_ascii [] h = IsAscii-nil
-elements_ascii (b ∷ []) h = signed_ascii b (All-head (λ c. c < 2 ^ 8) b [] h)
+elements_ascii (b ∷ []) h = IsAscii-append (element_text b) [] (signed_ascii b (All-head (λ c. c < 2 ^ 8) b [] h)) IsAscii-nil
 elements_ascii (b ∷ c ∷ bs) h =
     IsAscii-append (signed_decimal (cast_signed w8 b)) (44 ∷ elements_text (c ∷ bs)) (signed_ascii b (All-head (λ d. d < 2 ^ 8) b (c ∷ bs) h))
     (IsAscii-cons 44 (elements_text (c ∷ bs)) (omega arith) (elements_ascii (c ∷ bs) (All-tail (λ d. d < 2 ^ 8) b (c ∷ bs) h)))
@@ -87,7 +82,7 @@ pub text_back : (text : List ℕ) → text_value (quoted text) ≡ text
 text_back text = ap (λ o. unwrap_or o []) (enclosed_quoted text)
 
 pub blob_back : (bytes : List ℕ) → AllBytes bytes → blob_value (blob_text bytes) ≡ bytes
-blob_back bytes h = pairs_front (hex_text bytes) bytes (hex_spells bytes h)
+blob_back bytes h = pairs_front (encode_upper bytes) bytes (hex_spells bytes h)
 
 -- ---- values
 
@@ -145,12 +140,12 @@ int8_before vector rest words b h =
 bits_before : (bytes rest : List ℕ) (words : List Lexeme) → AllBytes bytes → HasTokens rest words → HasTokens (value_text (Bits bytes) ++ rest) (value_lexemes (Bits bytes) ++ words)
 bits_before bytes rest words b h =
     let closed : HasTokens (41 ∷ rest) (mark_lexeme (codes ")") ∷ words) = lone_before 41 rest words refl h in
-    let told : HasTokens (88 ∷ 39 ∷ ((hex_text bytes ++ 39 ∷ []) ++ 41 ∷ rest)) (blob_lexeme (blob_text bytes) ∷ mark_lexeme (codes ")") ∷ words) =
+    let told : HasTokens (88 ∷ 39 ∷ ((encode_upper bytes ++ 39 ∷ []) ++ 41 ∷ rest)) (blob_lexeme (blob_text bytes) ∷ mark_lexeme (codes ")") ∷ words) =
     blob_before bytes (41 ∷ rest) (mark_lexeme (codes ")") ∷ words) b closed in
-    let seam : ((hex_text bytes ++ 39 ∷ []) ++ 41 ∷ rest) ≡ ((hex_text bytes ++ 39 ∷ 41 ∷ []) ++ rest) =
-    append_assoc (hex_text bytes) (39 ∷ []) (41 ∷ rest) ∙ sym (append_assoc (hex_text bytes) (39 ∷ 41 ∷ []) rest) in
-    word_before (codes "vec_bit") (40 ∷ 88 ∷ 39 ∷ ((hex_text bytes ++ 39 ∷ 41 ∷ []) ++ rest)) (mark_lexeme (codes "(") ∷ blob_lexeme (blob_text bytes) ∷ mark_lexeme (codes ")") ∷ words) refl refl
-    (lone_before 40 (88 ∷ 39 ∷ ((hex_text bytes ++ 39 ∷ 41 ∷ []) ++ rest)) (blob_lexeme (blob_text bytes) ∷ mark_lexeme (codes ")") ∷ words) refl
+    let seam : ((encode_upper bytes ++ 39 ∷ []) ++ 41 ∷ rest) ≡ ((encode_upper bytes ++ 39 ∷ 41 ∷ []) ++ rest) =
+    append_assoc (encode_upper bytes) (39 ∷ []) (41 ∷ rest) ∙ sym (append_assoc (encode_upper bytes) (39 ∷ 41 ∷ []) rest) in
+    word_before (codes "vec_bit") (40 ∷ 88 ∷ 39 ∷ ((encode_upper bytes ++ 39 ∷ 41 ∷ []) ++ rest)) (mark_lexeme (codes "(") ∷ blob_lexeme (blob_text bytes) ∷ mark_lexeme (codes ")") ∷ words) refl refl
+    (lone_before 40 (88 ∷ 39 ∷ ((encode_upper bytes ++ 39 ∷ 41 ∷ []) ++ rest)) (blob_lexeme (blob_text bytes) ∷ mark_lexeme (codes ")") ∷ words) refl
     (subst (λ (z : List ℕ). HasTokens (88 ∷ 39 ∷ z) (blob_lexeme (blob_text bytes) ∷ mark_lexeme (codes ")") ∷ words)) seam told))
 
 pub value_before : (v : Value) (rest : List ℕ) (words : List Lexeme) → IsHeld v → ends_value rest ≡ true → HasTokens rest words → HasTokens (value_text v ++ rest) (value_lexemes v ++ words)

@@ -1,8 +1,7 @@
 -- The literal of an int8 vector: numbers from -128 to 127 in brackets, as `[1, -2]`.
 use Rattle.std.specs.Prelude.{◌≡◌, ◌⊎◌, ℕ, ◌<◌, ◌≤◌, length, take, get_or, ℤ, pos, negsuc, ◌-ℤ◌, ◌≤ℤ◌, Bool, true, false, not, ◌&&◌, ◌||◌, ◌==◌, List, [], ◌∷◌, ◌++◌, map, All}
 use Rattle.std.specs.Char.{is_ascii_digit}
-use Rattle.std.specs.Fmt.{signed_decimal}
-use Rattle.std.specs.Int.{w8, cast_signed, cast_unsigned}
+use Rattle.std.specs.Int.{w8, cast_unsigned}
 use Rattle.std.specs.List.{list_all}
 use Rattle.std.specs.Str.Parse.{digits_value}
 
@@ -86,13 +85,3 @@ pub record IsFirstMisfit (elements : List ℤ) (index : ℕ) : Type 0 where
   pub within : index < length elements
   pub misfit : IsElement (get_or elements index (pos 0)) → ⊥
   pub first : All IsElement (take index elements)
-
--- the elements in decimal, separated by commas
-abbrev pub elements_text : List ℕ → List ℕ
-elements_text [] = []
-elements_text (b ∷ []) = signed_decimal (cast_signed w8 b)
-elements_text (b ∷ c ∷ bs) = signed_decimal (cast_signed w8 b) ++ 44 ∷ elements_text (c ∷ bs)
-
--- the literal of a vector without white space
-abbrev pub int8_text : List ℕ → List ℕ
-int8_text vector = 91 ∷ (elements_text vector ++ 93 ∷ [])

@@ -5,5 +5,4 @@ pub mod Int8
 pub mod Lexemes
 pub mod LiteralValues
 pub mod Tokens
-pub mod ValueTexts
 pub mod inner

@@ -1,15 +1,15 @@
-ghost use Rattle.std.specs.Prelude.{◌≡◌, ◌⊎◌, ℕ, [], ◌∷◌, ◌++◌, List, IfOk, IfErr, OnOk, string_bytes};
-ghost use Rattle.std.specs.Fmt.{signed_decimal};
-ghost use Rattle.std.specs.Int.{w8, cast_signed};
-ghost use Rattle.std.specs.List.{flat_map};
-ghost use Rattle.vec_literal.specs.Int8.{SpellsInt8, elements_text, int8_text, is_space};
+ghost use Rattle.std.specs.Prelude.{◌≡◌, ◌⊎◌, ℕ, [], List, IfOk, IfErr, OnOk};
+ghost use Rattle.vec_literal.specs.Int8.{SpellsInt8, is_space};
+ghost use Rattle.vec_text.specs.ValueTexts.{int8_text};
 ghost use Rattle.vec_literal.specs.declared.int8.LitFault.{LitFault as Fault};
 ghost use Rattle.vec_literal.specs.declared.int8.LitFault.TheVariants.{Memory as WantOfMemory};
 ghost use Rattle.vec_literal.specs.Faults.{ReadsAs, FaultsAs, IsInt8Fault};
 ghost use Rattle.vec_literal.specs.inner.Int8Reading.{number_start, first_digit, after_element};
 
+use crate::usual_int8::read_usual;
 use std::alloc::{AllocError, Global};
 use vec_base::{Bytes, Memory, Txt};
+use vec_text::put_int8;
 
 /// Why a literal is not read.
 #[derive(Clone, Copy, Debug, PartialEq, Eq)]
@@ -25,6 +25,14 @@ pub enum LitFault {
     Memory,
 }
 
+impl From<AllocError> for LitFault {
+    ghost from_gives = { λ _ e. e ≡ WantOfMemory };
+
+    fn from(_: AllocError) -> Self {
+        LitFault::Memory
+    }
+}
+
 impl From<Memory> for LitFault {
     ghost from_gives = { λ _ e. e ≡ WantOfMemory };
 
@@ -36,6 +44,19 @@ impl From<Memory> for LitFault {
 /// The vector that the text spells, one byte for each element.
 /// `Place` where the text is not in the form, whatever its numbers, and `Range` where only a number is too large.
 pub fn read_int8(alloc: Global, text: &[u8]) -> Result<Bytes, LitFault>
+    ensures found { IfOk result (λ vector. SpellsInt8 text.now vector) }
+    ensures only { (vector : List ℕ) → SpellsInt8 text.now vector → ReadsAs result vector }
+    ensures fault { IfErr result (λ fault. (fault ≡ WantOfMemory) ⊎ IsInt8Fault text.now fault) }
+    ensures only_fault { (fault : Fault) → IsInt8Fault text.now fault → FaultsAs result fault }
+{
+    if let Some(vector) = read_usual(alloc, text)? {
+        return Ok(Bytes::from_vec(vector));
+    }
+    read_exactly(alloc, text)
+}
+
+/// The same, byte by byte, for texts in any form.
+fn read_exactly(alloc: Global, text: &[u8]) -> Result<Bytes, LitFault>
     ensures found { IfOk result (λ vector. SpellsInt8 text.now vector) }
     ensures only { (vector : List ℕ) → SpellsInt8 text.now vector → ReadsAs result vector }
     ensures fault { IfErr result (λ fault. (fault ≡ WantOfMemory) ⊎ IsInt8Fault text.now fault) }
@@ -56,7 +77,7 @@ pub fn write_int8(alloc: Global, vector: &[u8]) -> Result<Txt, Memory>
     ensures reads_back { IfOk result (λ t. SpellsInt8 t vector.now) }
 {
     let mut text = String::new(alloc);
-    write_vector(&mut text, vector)?;
+    put_int8(&mut text, vector)?;
     Ok(Txt::from_string(text))
 }
 
@@ -253,10 +274,10 @@ fn after_element(byte: u8) -> Option<Stage>
 
 /// A number of which the digits so far are read.
 #[derive(Clone, Copy)]
-struct Number {
-    negative: bool,
+pub(crate) struct Number {
+    pub(crate) negative: bool,
     /// The number without its sign. From `TOO_LARGE` on it grows no further.
-    magnitude: u16,
+    pub(crate) magnitude: u16,
 }
 
 /// A magnitude that fits no element, with any sign.
@@ -268,7 +289,7 @@ impl Number {
     ghost use Rattle.vec_literal.specs.inner.Int8Reading.{byte_of, next_digit};
 
     /// The byte of the element, or `None` where the number is outside -128 to 127.
-    fn byte(self) -> Option<u8>
+    pub(crate) fn byte(self) -> Option<u8>
         ensures { result ≡ byte_of self }
     {
         if self.negative {
@@ -302,47 +323,6 @@ impl Number {
             magnitude,
         }))
     }
-}
-
-/// Writes the literal of the vector, without white space.
-pub(crate) fn write_vector(text: &mut String, vector: &[u8]) -> Result<(), AllocError>
-    ensures { OnOk result (string_bytes text.new ≡ string_bytes text.old ++ int8_text vector.now) }
-{
-    text.push_str("[")?;
-    write_elements(text, vector)?;
-    text.push_str("]")
-}
-
-/// Writes the elements of a vector with commas between them.
-fn write_elements(text: &mut String, vector: &[u8]) -> Result<(), AllocError>
-    ensures { OnOk result (string_bytes text.new ≡ string_bytes text.old ++ elements_text vector.now) }
-{
-    match vector {
-        [] => Ok(()),
-        [first, others @ ..] => {
-            write_element(text, *first)?;
-            write_more_elements(text, others)
-        }
-    }
-}
-
-/// Writes the elements behind the first one, each with a comma before it.
-fn write_more_elements(text: &mut String, others: &[u8]) -> Result<(), AllocError>
-    ensures { OnOk result (string_bytes text.new ≡ string_bytes text.old ++ flat_map (λ b. 44 ∷ signed_decimal (cast_signed w8 b)) others.now) }
-{
-    for element in others {
-        text.push_str(",")?;
-        write_element(text, *element)?;
-    }
-    Ok(())
-}
-
-/// Writes an element of a vector in decimal.
-fn write_element(text: &mut String, element: u8) -> Result<(), AllocError>
-    ensures { OnOk result (string_bytes text.new ≡ string_bytes text.old ++ signed_decimal (cast_signed w8 element)) }
-{
-    let mut buffer = itoa::Buffer::new();
-    text.push_str(buffer.format(element.cast_signed()))
 }
 
 #[cfg(test)]

@@ -4,11 +4,11 @@
 mod bits;
 mod int8;
 mod literal;
+mod quote;
 mod token;
-mod value;
+mod usual_int8;
 
 pub use bits::{read_bits, write_bits};
 pub use int8::{LitFault, read_int8, write_int8};
 pub use literal::{between_quotes, read_blob, read_text};
 pub use token::{Lexed, Token, TokenSort, next_token};
-pub use value::write_value;

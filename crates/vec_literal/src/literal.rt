@@ -3,6 +3,7 @@ ghost use Rattle.vec_literal.specs.Tokens.{is_text_literal, is_blob_literal};
 ghost use Rattle.vec_literal.specs.LiteralValues.{text_value, quoted_bytes, undoubled, blob_value};
 
 use crate::bits::read_bits;
+use crate::quote::before_quote;
 use std::alloc::{AllocError, Global};
 use vec_base::{Bytes, Memory, Txt};
 
@@ -42,15 +43,15 @@ pub fn read_blob(alloc: Global, literal: &[u8]) -> Result<Bytes, Memory>
 fn undoubled(alloc: Global, quoted: &[u8]) -> Result<Vec<u8>, AllocError>
     ensures { IfOk result (λ bytes. bytes.items ≡ undoubled false quoted.now) }
 {
-    let mut bytes = Vec::new(alloc);
-    let mut second = false;
-    for byte in quoted {
-        if second {
-            second = false;
-        } else {
-            bytes.push(*byte)?;
-            second = *byte == b'\'';
+    let mut bytes = Vec::with_capacity(alloc, quoted.len())?;
+    let mut left = quoted;
+    loop {
+        let quote = before_quote(left);
+        if quote >= left.len() {
+            bytes.extend_from_slice(left)?;
+            return Ok(bytes);
         }
+        bytes.extend_from_slice(&left[..quote + 1])?;
+        left = &left[left.len().min(quote + 2)..];
     }
-    Ok(bytes)
 }

@@ -26,6 +26,8 @@ ghost use Rattle.vec_literal.specs.Tokens.{
   tokens,
 };
 
+use crate::quote::before_quote;
+
 #[cfg(test)]
 mod tests;
 
@@ -194,10 +196,7 @@ fn quote_from(text: &[u8], from: usize) -> usize
     ensures run { result ≡ run_end is_plain text.now from }
     ensures inside { result ≤ length text.now }
 {
-    from + text[from..]
-        .iter()
-        .take_while(|byte| **byte != b'\'')
-        .count()
+    from + before_quote(&text[from..])
 }
 
 /// The end of the longest mark that begins at the place, if one does.

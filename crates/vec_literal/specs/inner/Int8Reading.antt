@@ -1,7 +1,7 @@
 -- Reading an int8 literal byte by byte. Only clauses of private functions speak of it: proofs/Int8Sound.antt and
 -- proofs/Int8Complete.antt show that it reads just the texts in the form, and proofs/Int8Laws.antt that it answers with
 -- just the vectors that SpellsInt8 allows and the faults that IsInt8Fault allows.
-use Rattle.std.specs.Prelude.{◌≡◌, MatchBool, ℕ, ◌+◌, ◌-◌, ◌*◌, ◌%◌, Bool, true, false, if◌then◌else◌, ◌==◌, nat_lt, nat_le, List, [], ◌∷◌, ◌++◌, length, Option, Some, None, Result, Ok, Err}
+use Rattle.std.specs.Prelude.{◌≡◌, MatchBool, ℕ, ◌+◌, ◌-◌, ◌*◌, ◌%◌, Bool, true, false, if◌then◌else◌, ◌==◌, ◌<◌, ◌≤◌, nat_lt, nat_le, take, List, [], ◌∷◌, ◌++◌, length, Option, Some, None, Result, Ok, Err}
 use Rattle.std.specs.Option.{option_map, option_and_then}
 use Rattle.std.specs.Char.{is_ascii_digit}
 use Rattle.vec_literal.specs.Int8.{is_space}
@@ -104,6 +104,42 @@ reader_at stage vector = record { stage = stage; vector = vector; misfit = None 
 abbrev pub is_closed : Stage → Bool
 is_closed Closed = true
 is_closed _ = false
+
+-- the whole text is a literal of the vector
+abbrev pub ReadsWhole : List ℕ → List ℕ → Type 0
+ReadsWhole text vector = read_bytes (reader_at Start []) text ≡ Some (reader_at Closed vector)
+
+-- an element may begin
+abbrev pub is_due : Stage → Bool
+is_due Opened = true
+is_due Comma = true
+is_due _ = false
+
+-- the digits of a number of this sign may begin
+abbrev pub takes : Bool → Stage → Bool
+takes false Opened = true
+takes false Comma = true
+takes true Minus = true
+takes _ _ = false
+
+-- The number is spelled by the first bytes of the text, where its last digit may be followed by more. A reader at a stage
+-- where one may begin can read it.
+pub record ReadsNumber (text : List ℕ) (spelling : ℕ) (number : Number) : Type 0 where
+  pub some : 0 < spelling
+  pub inside : spelling ≤ length text
+  pub reads : (stage : Stage) (vector : List ℕ) → is_due stage ≡ true → read_bytes (reader_at stage vector) (take spelling text) ≡ Some (reader_at (Digits number) vector)
+
+-- The same of a number of this sign, whose digits stand from a place on: a reader that has read what stands before them, and
+-- is at a stage where they may begin, can read them.
+pub record ReadsDigits (negative : Bool) (text : List ℕ) (from upto : ℕ) (number : Number) : Type 0 where
+  pub rising : from < upto
+  pub inside : upto ≤ length text
+  pub reads : (start : Reader) (stage : Stage) (vector : List ℕ) → takes negative stage ≡ true → read_bytes start (take from text) ≡ Some (reader_at stage vector) →
+      read_bytes start (take upto text) ≡ Some (reader_at (Digits number) vector)
+
+-- an element of that byte is spelled by the first bytes of the text, and the text goes on behind it
+abbrev pub ReadsElement : List ℕ → ℕ → ℕ → Type 0
+ReadsElement text spelling byte = (number : Number) × (byte_of number ≡ Some byte) × (spelling < length text) × ReadsNumber text spelling number
 
 -- what a reader answers where the text, of this length, ends
 abbrev pub outcome_of : Reader → ℕ → Result (List ℕ) LitFault

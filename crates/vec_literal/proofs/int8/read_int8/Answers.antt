@@ -1,37 +1,12 @@
--- A refused byte ends the longest beginning that can go on, and at the end the reader has read the whole text.
-use Rattle.std.proofs.Common.{arith}
-use Rattle.std.proofs.lemmas.Bool.{MatchBool-at_true, MatchBool-at_false}
-use Rattle.vec_literal.proofs.Int8Laws.{reads_next, refused_answers, whole_answers}
+-- A vector that was read in the usual form is the text's.
+use Rattle.vec_literal.proofs.Int8Usual.{usual_answers}
 use Rattle.vec_literal.proofs.int8.read_int8.Goals as goal
 
-pub loop-place-preserved : goal.loop-place-preserved
-loop-place-preserved c =
-    reads_next c.args.text.now c.loop-place.reader c.read.new.self c.loop-place.place c.loop-place-test.true c.loop-place.invariant
-    (MatchBool-at_true _ _ c.if-not-branch.false c.in_ok-read.ensures)
+pub returns-in-Some-clause-found : goal.returns-in-Some-clause-found
+returns-in-Some-clause-found c = (usual_answers c.args.text.now c.in-Some.vector.items c.from_vec.result (rw c.in-Some.is at c.in_ok-vector.ensures) c.from_vec.ensures).found
 
-pub returns-then-not-branch-clause-only : goal.returns-then-not-branch-clause-only
-returns-then-not-branch-clause-only c =
-    let none = MatchBool-at_false _ _ c.if-not-branch.true c.in_ok-read.ensures in
-    (refused_answers c.args.text.now c.loop-place.reader c.loop-place.place c.loop-place-test.true c.loop-place.invariant none).only
+pub returns-in-Some-clause-only : goal.returns-in-Some-clause-only
+returns-in-Some-clause-only c = (usual_answers c.args.text.now c.in-Some.vector.items c.from_vec.result (rw c.in-Some.is at c.in_ok-vector.ensures) c.from_vec.ensures).only
 
-pub returns-then-not-branch-clause-fault : goal.returns-then-not-branch-clause-fault
-returns-then-not-branch-clause-fault c =
-    let none = MatchBool-at_false _ _ c.if-not-branch.true c.in_ok-read.ensures in
-    (refused_answers c.args.text.now c.loop-place.reader c.loop-place.place c.loop-place-test.true c.loop-place.invariant none).fault
-
-pub returns-then-not-branch-clause-only_fault : goal.returns-then-not-branch-clause-only_fault
-returns-then-not-branch-clause-only_fault c =
-    let none = MatchBool-at_false _ _ c.if-not-branch.true c.in_ok-read.ensures in
-    (refused_answers c.args.text.now c.loop-place.reader c.loop-place.place c.loop-place-test.true c.loop-place.invariant none).only_fault
-
-pub returns-clause-found : goal.returns-clause-found
-returns-clause-found c = (whole_answers c.args.text.now c.loop-place.reader c.loop-place.place c.finish.result (omega arith) c.loop-place.invariant c.finish.ensures).found
-
-pub returns-clause-only : goal.returns-clause-only
-returns-clause-only c = (whole_answers c.args.text.now c.loop-place.reader c.loop-place.place c.finish.result (omega arith) c.loop-place.invariant c.finish.ensures).only
-
-pub returns-clause-fault : goal.returns-clause-fault
-returns-clause-fault c = (whole_answers c.args.text.now c.loop-place.reader c.loop-place.place c.finish.result (omega arith) c.loop-place.invariant c.finish.ensures).fault
-
-pub returns-clause-only_fault : goal.returns-clause-only_fault
-returns-clause-only_fault c = (whole_answers c.args.text.now c.loop-place.reader c.loop-place.place c.finish.result (omega arith) c.loop-place.invariant c.finish.ensures).only_fault
+pub returns-in-Some-clause-only_fault : goal.returns-in-Some-clause-only_fault
+returns-in-Some-clause-only_fault c = (usual_answers c.args.text.now c.in-Some.vector.items c.from_vec.result (rw c.in-Some.is at c.in_ok-vector.ensures) c.from_vec.ensures).only_fault

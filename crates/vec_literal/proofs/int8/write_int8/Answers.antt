@@ -1,6 +1,6 @@
 -- The literal of bytes spells them.
 use Rattle.std.proofs.Common.{◌≡◌, rules}
-use Rattle.vec_literal.specs.Int8.{int8_text}
+use Rattle.vec_text.specs.ValueTexts.{int8_text}
 use Rattle.vec_literal.proofs.Int8Written.{written_spells}
 use Rattle.vec_literal.proofs.int8.write_int8.Goals as goal
 

@@ -1,12 +1,15 @@
-use Rattle.std.proofs.Common.{ℕ, Vec, Global, ap, ◌∙◌}
-use Rattle.vec_literal.proofs.Enclosed.{second_passed, byte_taken}
-use Rattle.vec_literal.proofs.literal.undoubled.Goals.{then-second, else-second+in_ok-push}
+use Rattle.std.proofs.Common.{arith}
+use Rattle.vec_literal.proofs.Enclosed.{part_taken, rest_taken, still_inside}
 use Rattle.vec_literal.proofs.literal.undoubled.Goals as goal
 
-pub loop-byte-preserved : goal.loop-byte-preserved
-loop-byte-preserved c = elim c.if-second.branch [
-  | then-second w ↦ second_passed c.loop-byte.bytes.items c.if-second.bytes.items c.args.quoted.now c.loop-byte.second c.if-second.second c.loop-byte.byte-index
-      c.loop-byte-test.true w.if-second.true w.second-is (ap (λ (v : Vec ℕ Global). v.items) w.bytes-is) c.loop-byte.invariant
-  | else-second+in_ok-push w ↦ byte_taken c.loop-byte.bytes.items c.if-second.bytes.items c.args.quoted.now c.loop-byte.second c.if-second.second c.loop-byte.byte-index
-      c.loop-byte-test.true w.if-second.false w.second-is (ap (λ (v : Vec ℕ Global). v.items) w.bytes-is ∙ w.in_ok-push.ensures.items) c.loop-byte.invariant
-]
+pub returns-then-quote-left : goal.returns-then-quote-left
+returns-then-quote-left c =
+    rest_taken c.loop-left.bytes.items _ c.loop-left.left.now _ c.before_quote-quote.result c.before_quote-quote.ensures.run (omega (arith, c.before_quote-quote.ensures.inside))
+    c.in_ok-extend_from_slice.ensures.items c.loop-left.invariant.whole
+
+pub loop-left-preserved : goal.loop-left-preserved
+loop-left-preserved c = record {
+  inside = still_inside c.loop-left.left.now c.args.quoted.now _ _ c.loop-left.invariant.inside;
+  whole = part_taken c.loop-left.bytes.items _ c.loop-left.left.now _ c.before_quote-quote.result c.min.result c.before_quote-quote.ensures.run (omega arith) c.min.ensures
+      c.in_ok-extend_from_slice-2.ensures.items c.loop-left.invariant.whole;
+}
