@@ -4,13 +4,10 @@ ghost use Rattle.std.specs.List.{count_by};
 ghost use Rattle.std.specs.Simd.Lanes.{zip2};
 ghost use Rattle.chunk_bitmap.specs.Bits.{bits_of, first_clear_of, next_set_of};
 
-use crate::bits;
+use crate::bits::{self, MOST_BYTES};
 use std::alloc::Global;
 use std::marker::Model;
 use vec_base::{MOST_CHUNK_SIZE, Memory};
-
-/// The most bytes of a bitmap.
-const MOST_BYTES: usize = MOST_CHUNK_SIZE as usize / 8;
 
 /// Truth values, 8 to 4,096 of them and a multiple of 8.
 #[derive(Drop)]
@@ -21,7 +18,7 @@ pub struct Bitmap {
 impl Model for Bitmap {
     ghost use Rattle.std.specs.Prelude.{◌≤◌, Bool, List as Seq, length};
     ghost use Rattle.chunk_bitmap.specs.Bits.{bits_of};
-    ghost use Rattle.chunk_bitmap.specs.declared.bitmap.TheConstants.{MOST_BYTES};
+    ghost use Rattle.chunk_bitmap.specs.declared.bits.TheConstants.{MOST_BYTES};
 
     ghost Value = { Seq Bool };
 

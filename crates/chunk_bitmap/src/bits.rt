@@ -5,6 +5,11 @@ ghost use Rattle.std.specs.List.{count_by};
 ghost use Rattle.std.specs.Simd.Lanes.{zip2};
 ghost use Rattle.chunk_bitmap.specs.Bits.{bits_of, first_clear_of, next_set_of};
 
+use vec_base::MOST_CHUNK_SIZE;
+
+/// The most bytes of a bitmap.
+pub(crate) const MOST_BYTES: usize = MOST_CHUNK_SIZE as usize / 8;
+
 /// The truth value at a place.
 #[inline]
 #[tactic(auto, using(crate::proofs::BitLaws::length_bits))]
@@ -37,7 +42,7 @@ pub(crate) fn clear(bytes: &mut [u8], place: usize)
 
 /// How many places are true.
 pub(crate) fn count(bytes: &[u8]) -> u16
-    requires { length bytes.now ≤ 512 }
+    requires { length bytes.now ≤ MOST_BYTES }
     ensures { result ≡ count_by (λ bit. bit) (bits_of bytes.now) }
 {
     let mut count = 0;
@@ -49,7 +54,7 @@ pub(crate) fn count(bytes: &[u8]) -> u16
 
 /// The least place that is false.
 pub(crate) fn first_clear(bytes: &[u8]) -> Option<u16>
-    requires { length bytes.now ≤ 512 }
+    requires { length bytes.now ≤ MOST_BYTES }
     ensures { result ≡ first_clear_of (bits_of bytes.now) }
 {
     for (index, byte) in bytes.iter().enumerate() {
@@ -62,7 +67,7 @@ pub(crate) fn first_clear(bytes: &[u8]) -> Option<u16>
 
 /// The least place from one on in the byte of a place that is true.
 fn set_in_byte(byte: u8, place: u16) -> Option<u16>
-    requires { place < 4096 }
+    requires { place < MOST_CHUNK_SIZE }
     ensures { MatchOption result
         ((j : ℕ) → place % 8 ≤ j → j < 8 → bit_at byte j ≡ 0)
         (λ found. (bit_at byte (found % 8) ≡ 1) × (found / 8 ≡ place / 8) × (place ≤ found) × ((j : ℕ) → place % 8 ≤ j → j < found % 8 → bit_at byte j ≡ 0)) }
@@ -76,7 +81,7 @@ fn set_in_byte(byte: u8, place: u16) -> Option<u16>
 
 /// The least place from one on that is true.
 pub(crate) fn next_set(bytes: &[u8], from: u16) -> Option<u16>
-    requires short { length bytes.now ≤ 512 }
+    requires short { length bytes.now ≤ MOST_BYTES }
     requires within { from ≤ 8 * length bytes.now }
     ensures { result ≡ next_set_of from (bits_of bytes.now) }
 {
