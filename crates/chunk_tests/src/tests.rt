@@ -57,7 +57,14 @@ fn leaves_are_split_and_given_up(rt: HostRuntime) -> Result<(), Fail> {
         }
     }
     assert_eq!(rt; (list.len(), shared.len()), (50, 200));
-    assert_eq!(rt; (item_at(&list, 49), item_at(&shared, 0), item_at(&shared, 100)), (Some(0), Some(1), Some(198)));
+    assert_eq!(rt;
+        (
+            item_at(&list, 49),
+            item_at(&shared, 0),
+            item_at(&shared, 100)
+        ),
+        (Some(0), Some(1), Some(198))
+    );
     Ok(())
 }
 
