@@ -13,3 +13,4 @@ pub mod TextParts
 pub mod TextStatements
 pub mod TextTerms
 pub mod WellFormed
+pub mod Written

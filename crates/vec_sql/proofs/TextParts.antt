@@ -3,10 +3,10 @@ use Rattle.std.proofs.Common.{◌≡◌, ℕ, suc, true, List, [], ◌∷◌, �
 use Rattle.std.specs.List.{flat_map, AllByRecursion}
 use Rattle.vec_base.specs.declared.value.Value.{Value}
 use Rattle.vec_base.specs.declared.value.Value.TheVariants as values
-use Rattle.vec_literal.specs.Held.{IsHeld}
-use Rattle.vec_literal.specs.Int8.{int8_text, SpellsInt8}
+use Rattle.vec_base.specs.Representable.{IsRepresentable}
+use Rattle.vec_literal.specs.Int8.{SpellsInt8}
 use Rattle.vec_literal.specs.Lexemes.{Lexeme, word_lexeme, mark_lexeme, text_lexeme, blob_lexeme}
-use Rattle.vec_literal.specs.ValueTexts.{quoted, blob_text}
+use Rattle.vec_text.specs.ValueTexts.{quoted, blob_text, int8_text}
 use Rattle.vec_literal.proofs.Int8Written.{bytes_spell}
 use Rattle.vec_literal.proofs.LiteralsBefore.{AllBytes, signed_lexemes}
 use Rattle.vec_literal.proofs.ValuesBefore.{value_lexemes, all_bytes, small_number}
@@ -99,7 +99,7 @@ bits_given bytes h =
     give_second (of_word (codes "VEC_BIT") (codes "vec_bit") refl)
     (parentheses_given (give_left (give_known (λ g. StandsFor g (values.Bits bytes)) (as_it_is (values.Bits bytes)) (of_means (λ b. givens.Value (values.Bits b)) a_blob (blob_lexeme (blob_text bytes) ∷ []) bytes (of_blob bytes h)))))
 
-pub value_given : (v : Value) → IsHeld v → LexemesGive value (value_lexemes v) (λ g. StandsFor g v)
+pub value_given : (v : Value) → IsRepresentable v → LexemesGive value (value_lexemes v) (λ g. StandsFor g v)
 unfolding value
 value_given values.Null h =
     give_right (give_right (give_right (give_left (give_known (λ g. StandsFor g values.Null) (as_it_is values.Null)

@@ -5,6 +5,7 @@ ghost use Rattle.grammar.specs.Grammar.{Spells};
 ghost use Rattle.grammar.specs.Parameters.{numbered_tokens};
 ghost use Rattle.vec_sql.specs.declared.given.GivenStatement.{GivenStatement as Spelled};
 ghost use Rattle.vec_sql.specs.inner.WellFormedGivens.{is_formed};
+ghost use Rattle.row_model.specs.RepresentableStatements.{IsRepresentableStatement};
 ghost use Rattle.row_model.specs.WellFormed.{IsWellFormed};
 ghost use Rattle.row_model.specs.declared.statement.Statement.{Statement as Meant};
 ghost use Rattle.vec_sql.specs.GivenStatements.{item_count, items_in, terms_in};
@@ -59,6 +60,7 @@ pub fn read_statement(
     ensures spelled { (statement : Meant) → SpellsStatement text.now params.now statement → (result ≡ Ok statement) ⊎ (result ≡ Err WantOfMemory) }
     ensures statement { IfOk result (λ statement. SpellsStatement text.now params.now statement) }
     ensures well_formed { IfOk result (λ statement. IsWellFormed statement) }
+    ensures representable { IfOk result (λ statement. IsRepresentableStatement statement) }
     ensures refusal { IfErr result (λ e. (e ≡ WantOfMemory) ⊎ IsRefusal text.now params.now e) }
 {
     if text.len() > 4_194_304 {
@@ -78,13 +80,17 @@ fn answered(
     fault: Option<u16>,
     count: Option<u64>,
 ) -> Result<Statement, Refusal>
-    ensures { result ≡ answered made fault count }
+    ensures given { result ≡ answered made fault count }
+    ensures representable { IfOk result (λ statement. IsRepresentableStatement statement) }
 {
     match made {
         Err(Flaw::Memory) => Err(Refusal::WantOfMemory),
         Err(Flaw::Place(place)) => Err(Refusal::Syntax(place as u64)),
         Err(Flaw::Rule(rule)) => unless_later(later(fault, count), Err(Refusal::BadSchema(rule))),
-        Ok(statement) => unless_later(later(fault, count), Ok(statement)),
+        Ok(statement) => {
+            statement.representable();
+            unless_later(later(fault, count), Ok(statement))
+        }
     }
 }
 

@@ -13,7 +13,7 @@ use Rattle.vec_sql.proofs.read.read_statement.Goals as goal
 
 pub returns-clause-spelled : goal.returns-clause-spelled
 returns-clause-spelled c statement spelled =
-    subst (λ (r : Result Statement Refusal). (r ≡ Ok statement) ⊎ (r ≡ Err WantOfMemory)) (sym c.answered.ensures)
+    subst (λ (r : Result Statement Refusal). (r ≡ Ok statement) ⊎ (r ≡ Err WantOfMemory)) (sym c.answered.ensures.given)
     (ends_only c.args.text.now c.args.params.now c.in_ok-given.given c.statement_of.result c.in-Ok.fault c.count_fault-count.result statement
     (subst (λ (p : List Value). IsStatementMade p c.in_ok-given.given c.statement_of.result) c.as_slice-2.ensures c.statement_of.ensures)
     (subst (λ (p : List Value). MatchOption c.in-Ok.fault (ParametersFit p (uses c.in_ok-given.given)) (λ index. IsParameterFault p (uses c.in_ok-given.given) index)) c.as_slice.ensures c.in-Ok.ensures)
@@ -21,7 +21,7 @@ returns-clause-spelled c statement spelled =
 
 pub returns-clause-statement : goal.returns-clause-statement
 returns-clause-statement c =
-    subst (λ (r : Result Statement Refusal). IfOk r (λ statement. SpellsStatement c.args.text.now c.args.params.now statement)) (sym c.answered.ensures)
+    subst (λ (r : Result Statement Refusal). IfOk r (λ statement. SpellsStatement c.args.text.now c.args.params.now statement)) (sym c.answered.ensures.given)
     (ends_ok c.args.text.now c.args.params.now c.in_ok-given.given c.statement_of.result c.in-Ok.fault c.count_fault-count.result
     (record { within = c.if-text-gt4194304.false; spelled = c.in_ok-given.ensures.spelled })
     (subst (λ (p : List Value). IsStatementMade p c.in_ok-given.given c.statement_of.result) c.as_slice-2.ensures c.statement_of.ensures)
@@ -30,7 +30,7 @@ returns-clause-statement c =
 
 pub returns-clause-refusal : goal.returns-clause-refusal
 returns-clause-refusal c =
-    subst (λ (r : Result Statement Refusal). IfErr r (λ e. (e ≡ WantOfMemory) ⊎ IsRefusal c.args.text.now c.args.params.now e)) (sym c.answered.ensures)
+    subst (λ (r : Result Statement Refusal). IfErr r (λ e. (e ≡ WantOfMemory) ⊎ IsRefusal c.args.text.now c.args.params.now e)) (sym c.answered.ensures.given)
     (ends_err c.args.text.now c.args.params.now c.in_ok-given.given c.statement_of.result c.in-Ok.fault c.count_fault-count.result
     (record { within = c.if-text-gt4194304.false; spelled = c.in_ok-given.ensures.spelled })
     (subst (λ (p : List Value). IsStatementMade p c.in_ok-given.given c.statement_of.result) c.as_slice-2.ensures c.statement_of.ensures)
@@ -39,7 +39,7 @@ returns-clause-refusal c =
 
 pub returns-clause-well_formed : goal.returns-clause-well_formed
 returns-clause-well_formed c =
-    subst (λ (r : Result Statement Refusal). IfOk r (λ statement. IsWellFormed statement)) (sym c.answered.ensures)
+    subst (λ (r : Result Statement Refusal). IfOk r (λ statement. IsWellFormed statement)) (sym c.answered.ensures.given)
     (ends_whole c.args.params.now c.in_ok-given.given c.statement_of.result c.in-Ok.fault c.count_fault-count.result c.in_ok-given.ensures.formed
     (subst (λ (p : List Value). IsStatementMade p c.in_ok-given.given c.statement_of.result) c.as_slice-2.ensures c.statement_of.ensures)
     (subst (λ (p : List Value). MatchOption c.in-Ok.fault (ParametersFit p (uses c.in_ok-given.given)) (λ index. IsParameterFault p (uses c.in_ok-given.given) index)) c.as_slice.ensures c.in-Ok.ensures)
