@@ -57,7 +57,7 @@ bind_at {A} r x f e = ap (λ (z : Outcome A). z >>= f) e
 bind_fail : {A B : Type 0} (r : Outcome A) (rest : List Token) (f : A × List Token → Outcome B) → r ≡ Err rest → (r >>= f) ≡ Err rest
 bind_fail {A} r rest f e = ap (λ (z : Outcome A). z >>= f) e
 
--- one more round, that fails, and no more
+-- one more round
 pub many_step : {A : Type 0} (p : Part A) → nullable p ≡ false → (front : List A) (ts rest : List Token) (v : A) → starts p ts ≡ true → read p ts ≡ Ok (v, rest) →
     with_front front (read (many p) ts) ≡ with_front (front ++ v ∷ []) (read (many p) rest)
 many_step p u front [] rest v s e = absurd cc
@@ -69,41 +69,9 @@ many_step {A} p u front (t ∷ us) rest v s e =
     ap (λ (z : Outcome (List A)). (let w : Outcome (List A) = z >>= λ xs. Ok (v ∷ xs.0, xs.1) in w)) (round_fuel p u (length us) (length rest) rest (omega arith) (omega arith)))) ∙
     front_cons front v (read (many p) rest)
 
-pub many_fails : {A : Type 0} (p : Part A) (front : List A) (ts rest : List Token) → starts p ts ≡ true → read p ts ≡ Err rest →
-    with_front front (read (many p) ts) ≡ Err rest
-many_fails p front [] rest s e = absurd cc
-many_fails {A} p front (t ∷ us) rest s e =
-    ap (λ (z : Outcome (List A)). with_front front z) (cond-true (starts p (t ∷ us)) _ _ s ∙ bind_fail (read p (t ∷ us)) rest _ e)
-
-pub many_ends : {A : Type 0} (p : Part A) (front : List A) (ts : List Token) → starts p ts ≡ false → with_front front (read (many p) ts) ≡ Ok (front, ts)
-many_ends {A} p front [] s = ap (λ (z : List A). (let r : Outcome (List A) = Ok (z, []) in r)) (append-nil front)
-many_ends {A} p front (t ∷ us) s =
-    ap (λ (z : Outcome (List A)). with_front front z) (cond-false (starts p (t ∷ us)) _ _ s) ∙ ap (λ (z : List A). (let r : Outcome (List A) = Ok (z, t ∷ us) in r)) (append-nil front)
-
 -- what holds of each item holds of the list with one item more
 pub all_pushed : {A : Type 0} (f : A → Bool) (front whole : List A) (v : A) → whole ≡ front ++ v ∷ [] → list_all f front ≡ true → f v ≡ true → list_all f whole ≡ true
 all_pushed {A} f front whole v e h k = ap (λ (z : List A). list_all f z) e ∙ (list_all-append f front (v ∷ []) ∙ and_from _ _ h (and_from _ _ k refl))
-
--- one part, and then parts in braces
-
-abbrev pub list_from : {A : Type 0} → Part A → Part A → Part (List A)
-list_from p q = means (λ x. x.0 ∷ x.1) (seq p (many q))
-
-abbrev paired : {A : Type 0} → A → Outcome (List A) → Outcome (A × List A)
-paired v r = r >>= λ y. Ok ((v, y.0), y.1)
-
-abbrev listed : {A : Type 0} → Outcome (A × List A) → Outcome (List A)
-listed r = r >>= λ x. Ok (x.0.0 ∷ x.0.1, x.1)
-
-first_joined : {A : Type 0} (v : A) (r : Outcome (List A)) → listed (paired v r) ≡ with_front (v ∷ []) r
-first_joined v (Ok x) = refl
-first_joined v (Err e) = refl
-
-pub list_first : {A : Type 0} (p q : Part A) (ts rest : List Token) (v : A) → read p ts ≡ Ok (v, rest) → with_front (v ∷ []) (read (many q) rest) ≡ read (list_from p q) ts
-list_first {A} p q ts rest v e = sym (ap (λ (z : Outcome A). listed (z >>= λ x. paired x.0 (read (many q) x.1))) e ∙ first_joined v (read (many q) rest))
-
-pub list_none : {A : Type 0} (p q : Part A) (ts rest : List Token) → read p ts ≡ Err rest → read (list_from p q) ts ≡ Err rest
-list_none {A} p q ts rest e = ap (λ (z : Outcome A). listed (z >>= λ x. paired x.0 (read (many q) x.1))) e
 
 -- the whole text
 
@@ -122,12 +90,6 @@ more_fails {A} p d ts left v e n = ended_err p d ts left (ap (λ (z : Outcome A)
 
 pub err_fails : {A : Type 0} (p : Part A) → decides p ≡ true → (ts left : List Token) → read p ts ≡ Err left → FailsAt p ts left
 err_fails {A} p d ts left e = ended_err p d ts left (ap (λ (z : Outcome A). ended z) e)
-
--- a failure handed on
-pub fails_as : {X Y A B : Type 0} (view : X → A) (view' : Y → B) (e : Stop) (r : Result Y Stop) (p : Outcome A) (q : Outcome B) (left : List Token) →
-    r ≡ Err e → Gives view (let z : Result X Stop = Err e in z) p left → (p ≡ Err left → q ≡ Err left) → Gives view' r q left
-fails_as {X} {Y} view view' stops.Here r p q left e g f = subst (λ (z : Result Y Stop). Gives view' z q left) (sym e) (f g)
-fails_as {X} {Y} view view' stops.Memory r p q left e g f = subst (λ (z : Result Y Stop). Gives view' z q left) (sym e) tt
 
 -- the beginning of a text
 

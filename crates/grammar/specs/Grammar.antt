@@ -4,7 +4,7 @@ use Rattle.std.specs.Char.{to_ascii_lowercase}
 use Rattle.std.specs.Str.Parse.{digits_value}
 use Rattle.vec_base.specs.Words.{is_reserved}
 use Rattle.vec_literal.specs.Tokens.{Token}
-use Rattle.vec_literal.specs.LiteralValues.{text_value, quoted_bytes, blob_value}
+use Rattle.vec_literal.specs.LiteralValues.{text_value, blob_value}
 use Rattle.vec_literal.specs.declared.token.TokenSort.{TokenSort}
 use Rattle.vec_literal.specs.declared.token.TokenSort.TheVariants as sorts
 
@@ -137,10 +137,6 @@ a_text = means text_of (one text_literal)
 -- a text literal, which stands for its place and its text
 abbrev pub a_placed_text : Part (ℕ × List ℕ)
 a_placed_text = means (λ t. (t.place, text_of t)) (one text_literal)
-
--- a text literal, which stands for its place and what its quotes enclose as it is spelled
-abbrev pub a_quoted : Part (ℕ × List ℕ)
-a_quoted = means (λ t. (t.place, quoted_bytes t.spelling)) (one text_literal)
 
 -- a blob literal, which stands for its bytes
 abbrev pub a_blob : Part (List ℕ)

@@ -3,10 +3,12 @@
 
 mod list;
 mod numbers;
+mod quoted;
 mod reader;
 mod words;
 
 pub use list::{Item, listed};
+pub use quoted::Quoted;
 pub use reader::{Reader, Stop};
 
 #[cfg(test)]

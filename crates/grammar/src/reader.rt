@@ -6,6 +6,7 @@ ghost use Rattle.vec_base.specs.Words.{is_reserved};
 use crate::numbers::{
     GREATEST_AFTER_MINUS, GREATEST_NUMBER, decimal_value, negated, parameter_number, raised,
 };
+use crate::quoted::Quoted;
 use crate::words::{is_reserved, unsupported_number};
 use std::alloc::Global;
 use vec_base::{Bytes, Memory, Refusal, Txt};
@@ -42,10 +43,10 @@ pub struct Reader<'a> {
 impl<'a> Reader<'a> {
     ghost use Rattle.std.specs.Prelude.{◌≡◌, ℕ, ℤ, pos, ◌-ℤ◌, [], ◌∷◌, drop, map, vec_items, ◌||◌, Some, IfOk, MatchBool};
     ghost use Rattle.vec_literal.specs.Tokens.{tokens};
-    ghost use Rattle.vec_literal.specs.LiteralValues.{undoubled, blob_value};
+    ghost use Rattle.vec_literal.specs.LiteralValues.{blob_value};
     ghost use Rattle.vec_literal.specs.declared.token.TokenSort.TheVariants.{Word as word_sort, Param as param_sort};
     ghost use Rattle.grammar.specs.inner.ReaderResults.{rest_of, spelled_rest, Gives, first_of, AtNumber, AtParameter, next_number, is_told, is_param_told, place_of, refusal_of};
-    ghost use Rattle.grammar.specs.Grammar.{keyword, name as name_class, number as number_class, text_literal as text_class, blob_literal as blob_class, parameter as parameter_class, sign, means, a_word, a_mark, a_placed_mark, a_name, a_number, a_number_after_minus, a_signed_number, a_text, a_placed_text, a_quoted, a_blob, a_parameter, lower, text_of, is_sort};
+    ghost use Rattle.grammar.specs.Grammar.{keyword, name as name_class, number as number_class, text_literal as text_class, blob_literal as blob_class, parameter as parameter_class, sign, means, a_word, a_mark, a_placed_mark, a_name, a_number, a_number_after_minus, a_signed_number, a_text, a_placed_text, a_blob, a_parameter, lower, text_of, is_sort};
     ghost use Rattle.grammar.specs.Parameters.{numbered_tokens};
     ghost use Rattle.vec_base.specs.Words.{is_name};
     ghost use Rattle.grammar.specs.inner.Reading.{next_in, read, starts};
@@ -362,18 +363,16 @@ impl<'a> Reader<'a> {
         Ok((place, text))
     }
 
-    /// Reads a text literal: its place, and the bytes between its quotes as they stand in the text, where each quote is
-    /// doubled.
+    /// Reads a text literal: its place, and what stands between its quotes, which is not copied.
     #[tactic(auto, using(crate::proofs::Places::means_fits, crate::proofs::Places::means_fails, crate::proofs::Numbering::text_no_parameter, crate::proofs::Numbering::text_spelled))]
-    pub fn quoted(&mut self) -> Result<(usize, &'a [u8]), Stop>
-        ensures bytes { Gives (λ x. (x.0, x.1.now)) result (read a_quoted (rest_of self.old)) (rest_of self.new) }
-        ensures text { Gives (λ x. (x.0, undoubled false x.1.now)) result (read a_placed_text (rest_of self.old)) (rest_of self.new) }
+    pub fn quoted(&mut self) -> Result<(usize, Quoted<'a>), Stop>
+        ensures { Gives (λ x. x) result (read a_placed_text (rest_of self.old)) (rest_of self.new) }
     {
         if !self.at_text() {
             return Err(Stop::Here);
         }
         let place = self.place(0);
-        let quoted = between_quotes(self.bytes());
+        let quoted = Quoted::new(between_quotes(self.bytes()));
         self.step();
         Ok((place, quoted))
     }

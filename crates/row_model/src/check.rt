@@ -8,12 +8,12 @@ use crate::fit::{note, note_value};
 use crate::forms::{is_nearest, note_change_forms, note_select_forms};
 use crate::names::{note_groups, note_names, note_sets};
 use crate::terms::{is_row_count, note_terms};
-use crate::{Column, Delete, Insert, Items, Place, Select, Update};
-use vec_base::{Refusal, Txt, Value};
+use crate::{Column, Delete, Insert, Items, MOST_COLUMNS, Place, Select, Update};
+use vec_base::{LAST_NAME_INDEX, Refusal, Txt, Value};
 
 /// The refusal of an INSERT into a table of these columns, if there is one.
-pub(crate) fn check_insert(columns: &[Column], insert: &Insert) -> Option<Refusal>
-    requires narrow { length columns.now < 255 }
+pub fn check_insert(columns: &[Column], insert: &Insert) -> Option<Refusal>
+    requires narrow { length columns.now ≤ MOST_COLUMNS }
     ensures { result ≡ check_insert columns.now insert.now }
 {
     let names = insert.columns.as_slice();
@@ -28,12 +28,12 @@ pub(crate) fn check_insert(columns: &[Column], insert: &Insert) -> Option<Refusa
 fn index_after(count: usize) -> u16
     ensures { result ≡ index_after count }
 {
-    (count.min(65534) + 1) as u16
+    (count.min(usize::from(LAST_NAME_INDEX) - 1) + 1) as u16
 }
 
 /// The refusal of an UPDATE of a table of these columns, if there is one.
-pub(crate) fn check_update(columns: &[Column], update: &Update) -> Option<Refusal>
-    requires narrow { length columns.now < 255 }
+pub fn check_update(columns: &[Column], update: &Update) -> Option<Refusal>
+    requires narrow { length columns.now ≤ MOST_COLUMNS }
     ensures { result ≡ check_update columns.now update.now }
 {
     let sets = update.sets.as_slice();
@@ -44,8 +44,8 @@ pub(crate) fn check_update(columns: &[Column], update: &Update) -> Option<Refusa
 }
 
 /// The refusal of a DELETE from a table of these columns, if there is one.
-pub(crate) fn check_delete(columns: &[Column], delete: &Delete) -> Option<Refusal>
-    requires narrow { length columns.now < 255 }
+pub fn check_delete(columns: &[Column], delete: &Delete) -> Option<Refusal>
+    requires narrow { length columns.now ≤ MOST_COLUMNS }
     ensures { result ≡ check_delete columns.now delete.now }
 {
     let terms = delete.where_terms.as_slice();
@@ -60,7 +60,7 @@ fn note_item_names(
     index: u16,
     names: &[Txt],
 ) -> Option<Refusal>
-    requires narrow { length columns.now < 255 }
+    requires narrow { length columns.now ≤ MOST_COLUMNS }
     ensures { result ≡ least_after worst (names_faults columns.now index names.now) }
 {
     let Some((name, more)) = names.split_first() else {
@@ -73,7 +73,7 @@ fn note_item_names(
 
 /// Notes the items of a SELECT.
 fn note_items(worst: Option<Refusal>, columns: &[Column], items: &Items) -> Option<Refusal>
-    requires narrow { length columns.now < 255 }
+    requires narrow { length columns.now ≤ MOST_COLUMNS }
     ensures { result ≡ least_after worst (items_faults columns.now items.now) }
 {
     match items {
@@ -123,8 +123,8 @@ fn note_limit(worst: Option<Refusal>, nearest: bool, limit: &Option<Value>) -> O
 }
 
 /// The refusal of a SELECT from a table of these columns, if there is one.
-pub(crate) fn check_select(columns: &[Column], select: &Select) -> Option<Refusal>
-    requires narrow { length columns.now < 255 }
+pub fn check_select(columns: &[Column], select: &Select) -> Option<Refusal>
+    requires narrow { length columns.now ≤ MOST_COLUMNS }
     ensures { result ≡ check_select columns.now select.now }
 {
     let terms = select.where_terms.as_slice();

@@ -1,14 +1,14 @@
 //! What names mean in a table.
-ghost use Rattle.std.specs.Prelude.{◌≡◌, ◌<◌, length, bytes_eq};
+ghost use Rattle.std.specs.Prelude.{◌≡◌, ◌≤◌, ◌<◌, length, bytes_eq};
 ghost use Rattle.row_model.specs.Check.{is_no_item, is_bool_column, is_fixed};
 ghost use Rattle.row_model.specs.ColumnNames.{place_of, declared_place, column_number, root, is_unknown, is_stored, is_count, is_distance, is_of, is_rowid_or_key, has_text_key};
-ghost use Rattle.row_model.specs.Schemas.{is_vector, is_auxiliary};
+ghost use Rattle.row_model.specs.Schemas.{has_role, is_vector, is_auxiliary};
 
-use crate::{Column, Kind, Place};
-use vec_base::Txt;
+use crate::{Column, Kind, MOST_COLUMNS, Place, Role, UNKNOWN_COLUMN};
+use vec_base::{COUNT_COLUMN, DISTANCE_COLUMN, Txt};
 
 /// Whether two names are the same.
-pub(crate) fn is_same_name(a: &Txt, b: &Txt) -> bool
+pub fn is_same_name(a: &Txt, b: &Txt) -> bool
     ensures { result ≡ bytes_eq a.now b.now }
 {
     a.as_text() == b.as_text()
@@ -23,7 +23,7 @@ fn is_word(name: &Txt, word: &str) -> bool
 
 /// The first declared column of the name.
 fn declared(columns: &[Column], name: &Txt) -> Place
-    requires narrow { length columns.now < 255 }
+    requires narrow { length columns.now ≤ MOST_COLUMNS }
     ensures { result ≡ declared_place name.now 1 columns.now }
 {
     for (index, column) in columns.iter().enumerate() {
@@ -35,7 +35,7 @@ fn declared(columns: &[Column], name: &Txt) -> Place
 }
 
 /// Whether a text key is declared.
-pub(crate) fn has_text_key(columns: &[Column]) -> bool
+pub fn has_text_key(columns: &[Column]) -> bool
     ensures { result ≡ has_text_key columns.now }
 {
     columns
@@ -45,8 +45,8 @@ pub(crate) fn has_text_key(columns: &[Column]) -> bool
 
 impl Place {
     /// What a name means.
-    pub(crate) fn of(columns: &[Column], name: &Txt) -> Place
-        requires narrow { length columns.now < 255 }
+    pub fn of(columns: &[Column], name: &Txt) -> Place
+        requires narrow { length columns.now ≤ MOST_COLUMNS }
         ensures { result ≡ place_of columns.now name.now }
     {
         if is_word(name, "rowid") {
@@ -68,8 +68,8 @@ impl Place {
         match self {
             Place::Unknown | Place::Rowid => 0,
             Place::Declared(number, _) => number,
-            Place::Count => 254,
-            Place::Distance => 255,
+            Place::Count => COUNT_COLUMN,
+            Place::Distance => DISTANCE_COLUMN,
         }
     }
 
@@ -78,11 +78,11 @@ impl Place {
         ensures { result ≡ root self }
     {
         match self {
-            Place::Unknown => 253,
+            Place::Unknown => UNKNOWN_COLUMN,
             Place::Rowid | Place::Declared(_, Kind::IntKey) => 0,
             Place::Declared(number, _) => number,
-            Place::Count => 254,
-            Place::Distance => 255,
+            Place::Count => COUNT_COLUMN,
+            Place::Distance => DISTANCE_COLUMN,
         }
     }
 
@@ -100,7 +100,7 @@ impl Place {
     }
 
     /// Whether it is `k`.
-    pub(crate) fn is_count(self) -> bool
+    pub fn is_count(self) -> bool
         ensures { result ≡ is_count self }
     {
         matches!(self, Place::Count)
@@ -112,13 +112,14 @@ impl Place {
         matches!(self, Place::Distance)
     }
 
-    pub(crate) fn is_rowid_or_key(self) -> bool
+    pub fn is_rowid_or_key(self) -> bool
         ensures { result ≡ is_rowid_or_key self }
     {
-        matches!(
-            self,
-            Place::Rowid | Place::Declared(_, Kind::IntKey | Kind::TextKey)
-        )
+        match self {
+            Place::Rowid => true,
+            Place::Declared(_, kind) => kind.has_role(Role::Key),
+            _ => false,
+        }
     }
 
     /// Whether a SELECT can't answer it.
@@ -128,22 +129,26 @@ impl Place {
         matches!(self, Place::Unknown | Place::Count)
     }
 
+    /// Whether it is a declared column that is for this.
+    fn has_role(self, role: Role) -> bool
+        ensures { result ≡ is_of (has_role role) self }
+    {
+        match self {
+            Place::Declared(_, kind) => kind.has_role(role),
+            _ => false,
+        }
+    }
+
     pub(crate) fn is_vector(self) -> bool
         ensures { result ≡ is_of is_vector self }
     {
-        matches!(
-            self,
-            Place::Declared(_, Kind::Int8Vector(_, _) | Kind::BitVector(_))
-        )
+        self.has_role(Role::Vector)
     }
 
     pub(crate) fn is_auxiliary(self) -> bool
         ensures { result ≡ is_of is_auxiliary self }
     {
-        matches!(
-            self,
-            Place::Declared(_, Kind::IntAux | Kind::TextAux | Kind::BlobAux)
-        )
+        self.has_role(Role::Auxiliary)
     }
 
     /// Whether it is a BOOLEAN column.
@@ -157,13 +162,6 @@ impl Place {
     pub(crate) fn is_fixed(self) -> bool
         ensures { result ≡ is_fixed self }
     {
-        matches!(
-            self,
-            Place::Rowid
-                | Place::Declared(
-                    _,
-                    Kind::IntKey | Kind::TextKey | Kind::IntPartition | Kind::TextPartition
-                )
-        )
+        self.is_rowid_or_key() || self.has_role(Role::Partition)
     }
 }

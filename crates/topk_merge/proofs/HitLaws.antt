@@ -8,7 +8,9 @@ use Rattle.std.specs.declared.cmp.Ordering.{Ordering}
 use Rattle.std.proofs.lemmas.Bool.{cases_Bool, false≢true}
 use Rattle.std.proofs.lemmas.Cmp.{ranked, int_ranked, tied_itself, nat_cmp_total, int_cmp_total, int_eq_equiv, on_total, then_total}
 use Rattle.std.proofs.lemmas.List.Sorted.{ranks_by}
-use Rattle.vec_base.specs.Ranks.{first_ranked, offered, IsStrictOrder, AreRanked, AllRanked, IsInOrder}
+use Rattle.vec_base.specs.Ranks.{first_ranked}
+use Rattle.vec_base.specs.inner.Offers.{offered}
+use Rattle.vec_base.specs.inner.StrictOrders.{IsStrictOrder, AreRanked, AllRanked, IsInOrder}
 use Rattle.vec_base.proofs.RankLaws.{each-map, offered_ranked}
 use Rattle.topk_merge.specs.declared.hit.Hit.{Hit}
 use Rattle.topk_merge.specs.Hits.{hit_cmp, is_before}

@@ -55,6 +55,15 @@ impl Best {
         let _ = self.hits.insert(at, hit);
     }
 
+    /// The hits that are kept, in order.
+    pub fn hits(&self) -> &[Hit]
+        ensures hits { result.now ≡ self.now.hits }
+        ensures sorted { IsSortedBy is_before result.now }
+        ensures fits { length result.now ≤ self.now.room }
+    {
+        self.hits.as_slice()
+    }
+
     pub fn len(&self) -> usize
         ensures { result ≡ length self.now.hits }
     {
@@ -69,7 +78,9 @@ impl Best {
 
     /// The hits in order.
     pub fn into_sorted(self) -> List<Hit>
-        ensures { result ≡ self.hits }
+        ensures hits { result ≡ self.hits }
+        ensures sorted { IsSortedBy is_before result }
+        ensures fits { length result ≤ self.room }
     {
         List::from_vec(self.hits)
     }

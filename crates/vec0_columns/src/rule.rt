@@ -1,7 +1,11 @@
 ghost use Rattle.std.specs.Prelude.{◌≡◌};
 ghost use Rattle.row_model.specs.Schemas.{is_key, is_vector, is_partition, is_metadata, is_auxiliary, count_of, has_some, has_column, has_twins, is_hidden_name, takes_hidden_name, is_eights, is_misfit_int8, is_misfit_bits, schema_fault};
 
-use row_model::{Column, Kind, Schema};
+use row_model::{Column, Kind, Role, Schema};
+use vec_base::{
+    MOST_AUXILIARY_COLUMNS, MOST_CHUNK_SIZE, MOST_DIMENSIONS, MOST_METADATA_COLUMNS,
+    MOST_PARTITION_COLUMNS, MOST_VECTOR_COLUMNS,
+};
 
 /// The number of the least rule that the schema breaks, or `None` where it breaks none: 1 without a vector column; 2 to 5
 /// with more than 16 vector, 4 partition, 16 metadata or 16 auxiliary columns; 6 with more than one key; 7 where two
@@ -13,13 +17,13 @@ pub fn schema_rule(schema: &Schema) -> Option<u8>
     let columns = schema.columns.as_slice();
     if count_vectors(columns) == 0 {
         Some(1)
-    } else if count_vectors(columns) > 16 {
+    } else if count_vectors(columns) > MOST_VECTOR_COLUMNS {
         Some(2)
-    } else if count_partitions(columns) > 4 {
+    } else if count_partitions(columns) > MOST_PARTITION_COLUMNS {
         Some(3)
-    } else if count_metadata(columns) > 16 {
+    } else if count_metadata(columns) > MOST_METADATA_COLUMNS {
         Some(4)
-    } else if count_auxiliaries(columns) > 16 {
+    } else if count_auxiliaries(columns) > MOST_AUXILIARY_COLUMNS {
         Some(5)
     } else if count_keys(columns) > 1 {
         Some(6)
@@ -31,7 +35,7 @@ pub fn schema_rule(schema: &Schema) -> Option<u8>
         Some(9)
     } else if has_misfit_bits(columns) {
         Some(10)
-    } else if !is_eights(4096, schema.chunk_size) {
+    } else if !is_eights(MOST_CHUNK_SIZE, schema.chunk_size) {
         Some(12)
     } else {
         None
@@ -43,7 +47,7 @@ fn count_keys(columns: &[Column]) -> usize
 {
     columns
         .iter()
-        .filter(|column| matches!(column.kind, Kind::IntKey | Kind::TextKey))
+        .filter(|column| column.kind.has_role(Role::Key))
         .count()
 }
 
@@ -52,7 +56,7 @@ fn count_vectors(columns: &[Column]) -> usize
 {
     columns
         .iter()
-        .filter(|column| matches!(column.kind, Kind::Int8Vector(..) | Kind::BitVector(_)))
+        .filter(|column| column.kind.has_role(Role::Vector))
         .count()
 }
 
@@ -61,7 +65,7 @@ fn count_partitions(columns: &[Column]) -> usize
 {
     columns
         .iter()
-        .filter(|column| matches!(column.kind, Kind::IntPartition | Kind::TextPartition))
+        .filter(|column| column.kind.has_role(Role::Partition))
         .count()
 }
 
@@ -70,7 +74,7 @@ fn count_metadata(columns: &[Column]) -> usize
 {
     columns
         .iter()
-        .filter(|column| matches!(column.kind, Kind::IntMeta | Kind::TextMeta | Kind::BoolMeta))
+        .filter(|column| column.kind.has_role(Role::Metadata))
         .count()
 }
 
@@ -79,7 +83,7 @@ fn count_auxiliaries(columns: &[Column]) -> usize
 {
     columns
         .iter()
-        .filter(|column| matches!(column.kind, Kind::IntAux | Kind::TextAux | Kind::BlobAux))
+        .filter(|column| column.kind.has_role(Role::Auxiliary))
         .count()
 }
 
@@ -131,7 +135,7 @@ fn is_misfit_int8(kind: Kind) -> bool
     ensures { result ≡ is_misfit_int8 kind }
 {
     match kind {
-        Kind::Int8Vector(width, _) => !(1 <= width && width <= 8192),
+        Kind::Int8Vector(width, _) => !(1 <= width && width <= MOST_DIMENSIONS),
         _ => false,
     }
 }
@@ -141,7 +145,7 @@ fn is_misfit_bits(kind: Kind) -> bool
     ensures { result ≡ is_misfit_bits kind }
 {
     match kind {
-        Kind::BitVector(width) => !is_eights(8192, width),
+        Kind::BitVector(width) => !is_eights(MOST_DIMENSIONS, width),
         _ => false,
     }
 }

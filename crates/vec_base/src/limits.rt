@@ -57,13 +57,6 @@ pub const MOST_METADATA_COLUMNS: usize = 16;
 /// The most auxiliary columns of a table.
 pub const MOST_AUXILIARY_COLUMNS: usize = 16;
 
-/// The most columns of a table: those and a key.
-pub const MOST_COLUMNS: usize = 1
-    + MOST_VECTOR_COLUMNS
-    + MOST_PARTITION_COLUMNS
-    + MOST_METADATA_COLUMNS
-    + MOST_AUXILIARY_COLUMNS;
-
 /// The most dimensions of a vector: elements of an int8 vector, bits of a bit vector.
 pub const MOST_DIMENSIONS: u16 = 8_192;
 
@@ -81,9 +74,6 @@ pub const MOST_SOURCE_BYTES: usize = 1 << 40;
 
 /// The greatest rowid.
 pub const LAST_ROWID: i64 = i64::MAX;
-
-/// The number of a name that is no column.
-pub const UNKNOWN_COLUMN: u8 = 253;
 
 /// The number by which a refusal names `k` and LIMIT.
 pub const COUNT_COLUMN: u8 = 254;

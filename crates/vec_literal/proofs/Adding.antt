@@ -9,7 +9,7 @@ use Rattle.vec_base.specs.declared.value.Value.{Value}
 use Rattle.vec_base.specs.declared.value.Value.TheVariants as values
 use Rattle.vec_literal.specs.declared.token.TokenSort.{TokenSort}
 use Rattle.vec_literal.specs.declared.token.TokenSort.TheVariants as sorts
-use Rattle.vec_literal.specs.Held.{IsHeld}
+use Rattle.vec_base.specs.Representable.{IsRepresentable}
 use Rattle.vec_literal.specs.Lexemes.{Lexeme, lexemes, word_lexeme, mark_lexeme}
 use Rattle.vec_literal.specs.inner.Stretches.{is_pair, is_single}
 use Rattle.vec_literal.specs.Tokens.{is_word_text}
@@ -98,7 +98,7 @@ value_constant (values.Blob bytes) = refl
 value_constant (values.Int8 vector) = refl
 value_constant (values.Bits bytes) = refl
 
-pub adds_value : (v : Value) → IsHeld v → Adds (value_text v) ends_value (value_lexemes v)
+pub adds_value : (v : Value) → IsRepresentable v → Adds (value_text v) ends_value (value_lexemes v)
 adds_value v held = record { before = λ rest more e h. value_before v rest more held e h; constant = value_constant v }
 
 -- a name, before a space, a comma, a closing parenthesis or the end

@@ -7,7 +7,7 @@ use Rattle.std.proofs.lemmas.Fmt.{IsAscii-signed}
 use Rattle.std.proofs.lemmas.Int.{ints}
 use Rattle.std.proofs.lemmas.List.{get_or_past}
 use Rattle.std.proofs.lemmas.List.Elements.{All-head, All-tail, All-get_or, All-from_get_or}
-use Rattle.std.proofs.lemmas.Str.{IsAscii-append, IsUtf8-from_ascii}
+use Rattle.std.proofs.lemmas.Str.{IsAscii-append, IsUtf8-from_ascii, IsUtf8-from_is_utf8}
 use Rattle.std.proofs.lemmas.Str.Ascii.{IsAscii-cons, IsAscii-nil}
 use Rattle.std.specs.Char.{is_ascii_digit}
 use Rattle.std.specs.Fmt.{signed_decimal}
@@ -21,7 +21,7 @@ use Rattle.hex.proofs.HexLemmas.{decode_of-encode_upper}
 use Rattle.vec_base.specs.declared.value.Value.{Value}
 use Rattle.vec_base.specs.declared.value.Value.TheVariants.{Null, Int, Text, Blob, Int8, Bits}
 use Rattle.vec_literal.specs.Bits.{SpellsBits}
-use Rattle.vec_literal.specs.Held.{AreBytes, IsHeld}
+use Rattle.vec_base.specs.Representable.{AreBytes, IsRepresentable}
 use Rattle.vec_literal.specs.Int8.{IsElement}
 use Rattle.vec_literal.specs.Lexemes.{Lexeme, word_lexeme, mark_lexeme, text_lexeme, blob_lexeme}
 use Rattle.vec_literal.specs.LiteralValues.{text_value, blob_value}
@@ -148,10 +148,10 @@ bits_before bytes rest words b h =
     (lone_before 40 (88 ∷ 39 ∷ ((encode_upper bytes ++ 39 ∷ 41 ∷ []) ++ rest)) (blob_lexeme (blob_text bytes) ∷ mark_lexeme (codes ")") ∷ words) refl
     (subst (λ (z : List ℕ). HasTokens (88 ∷ 39 ∷ z) (blob_lexeme (blob_text bytes) ∷ mark_lexeme (codes ")") ∷ words)) seam told))
 
-pub value_before : (v : Value) (rest : List ℕ) (words : List Lexeme) → IsHeld v → ends_value rest ≡ true → HasTokens rest words → HasTokens (value_text v ++ rest) (value_lexemes v ++ words)
+pub value_before : (v : Value) (rest : List ℕ) (words : List Lexeme) → IsRepresentable v → ends_value rest ≡ true → HasTokens rest words → HasTokens (value_text v ++ rest) (value_lexemes v ++ words)
 value_before Null rest words v e h = word_before (codes "NULL") rest words refl (ended_word rest e) h
 value_before (Int n) rest words v e h = signed_before n rest words (small_number n v) (ended_number rest e) h
-value_before (Text text) rest words v e h = text_before text rest words v (ended_quote rest e) h
+value_before (Text text) rest words v e h = text_before text rest words (IsUtf8-from_is_utf8 text v) (ended_quote rest e) h
 value_before (Blob bytes) rest words v e h = blob_before bytes rest words (all_bytes bytes v) h
 value_before (Int8 vector) rest words v e h = int8_before vector rest words (all_bytes vector v) h
 value_before (Bits bytes) rest words v e h = bits_before bytes rest words (all_bytes bytes v) h

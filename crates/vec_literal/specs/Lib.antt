@@ -1,6 +1,5 @@
 pub mod Bits
 pub mod Faults
-pub mod Held
 pub mod Int8
 pub mod Lexemes
 pub mod LiteralValues

@@ -7,7 +7,8 @@ ghost use Rattle.row_model.specs.Machine.{first_state, no_tables};
 ghost use Rattle.row_model.specs.Step.{answer_of};
 
 use crate::session::Session;
-use row_model::{PlainEngine, Reply, Request};
+use plain_engine::PlainEngine;
+use row_model::{Reply, Request};
 use std::alloc::Global;
 use vec_base::{List, Memory, Refusal, Value};
 use vec_sql::read_statement;

@@ -1,5 +1,5 @@
 pub mod Answering
-pub mod Lists
+pub mod Filled
 pub mod Making
 pub mod Meant
 pub mod Noting
@@ -13,3 +13,4 @@ pub mod TextParts
 pub mod TextStatements
 pub mod TextTerms
 pub mod WellFormed
+pub mod Written

@@ -1,13 +1,16 @@
 -- What is made of the parts of a statement.
-use Rattle.std.proofs.Common.{◌≡◌, ℕ, ◌+◌, ◌<◌, List, [], ◌∷◌, ◌++◌, length, take, drop, get_or, Option, Some, None, Result, Ok, Err, refl, sym, ◌∙◌, ap, subst, append_assoc, append-nil}
-use Rattle.std.specs.Prelude.{Bool, MatchBool, MatchOption, IfOk}
+use Rattle.std.proofs.Common.{◌≡◌, ℕ, ◌+◌, ◌<◌, List, [], ◌∷◌, ◌++◌, length, take, drop, get_or, map, Option, Some, None, Result, Ok, Err, refl, sym, ◌∙◌, ap, subst, append_assoc, append-nil}
+use Rattle.std.specs.Prelude.{Bool, IsErrAnd, false, MatchBool, MatchOption, IfOk}
 use Rattle.std.specs.Option.{is_some}
 use Rattle.std.specs.List.{AllByRecursion, flat_map}
 use Rattle.std.proofs.lemmas.Grind.{flat_map-append}
-use Rattle.std.proofs.lemmas.List.{take_more, drop_more, take-append-drop}
+use Rattle.std.proofs.lemmas.Result.{err_from_is_err_and}
+use Rattle.std.proofs.lemmas.List.{take_more, drop_more, take-append-drop, map-id}
 use Rattle.vec_base.specs.declared.value.Value.{Value}
 use Rattle.vec_base.specs.declared.value.Value.TheVariants as values
 use Rattle.vec_literal.specs.Int8.{SpellsInt8}
+use Rattle.vec_literal.specs.LiteralValues.{undoubled}
+use Rattle.vec_literal.proofs.Enclosed.{quoted_spells, undoubled_spells}
 use Rattle.vec_sql.specs.declared.flaw.Flaw.{Flaw}
 use Rattle.vec_sql.specs.declared.flaw.Flaw.TheVariants as flaws
 use Rattle.vec_sql.specs.declared.given.Given.{Given}
@@ -36,6 +39,23 @@ text_gives r text spelled value e k h =
     subst (λ (v : Value). IfOk r (λ read. MatchOption read (Takes int8 v → ⊥) (λ vector. GivesInt8 v (values.Int8 vector)))) (sym k)
     (text_gives_same r text (subst (λ (z : List ℕ). IfOk r (λ read. MatchOption read ((vector : List ℕ) → SpellsInt8 z vector → ⊥) (λ vector. SpellsInt8 z vector))) e h))
 
+abbrev Spelled : List ℕ → Option (List ℕ) → Type 0
+Spelled text read = MatchOption read ((vector : List ℕ) → SpellsInt8 text vector → ⊥) (λ vector. SpellsInt8 text vector)
+
+-- what is quoted is read as it is spelled
+quoted_read : (spelling : List ℕ) (read : Option (List ℕ)) → Spelled spelling read → Spelled (undoubled false spelling) read
+quoted_read spelling None h = λ vector s. h vector (quoted_spells spelling vector s)
+quoted_read spelling (Some vector) h = undoubled_spells spelling vector h
+
+quoted_same : {E : Type 0} (spelling : List ℕ) (r : Result (Option (List ℕ)) E) → IfOk r (λ read. Spelled spelling read) → IfOk r (λ read. Spelled (undoubled false spelling) read)
+quoted_same spelling (Ok read) h = quoted_read spelling read h
+quoted_same spelling (Err e) h = tt
+
+pub quoted_gives : {E : Type 0} (quoted spelling : List ℕ) (r : Result (Option (List ℕ)) E) → quoted ≡ undoubled false spelling →
+    IfOk r (λ read. MatchOption read ((vector : List ℕ) → SpellsInt8 spelling vector → ⊥) (λ vector. SpellsInt8 spelling vector)) →
+    IfOk r (λ read. MatchOption read ((vector : List ℕ) → SpellsInt8 quoted vector → ⊥) (λ vector. SpellsInt8 quoted vector))
+quoted_gives quoted spelling r e h = subst (λ (z : List ℕ). IfOk r (λ read. Spelled z read)) (sym e) (quoted_same spelling r h)
+
 pub none_spelled : (read : Option (List ℕ)) (text : List ℕ) → read ≡ None → MatchOption read ((vector : List ℕ) → SpellsInt8 text vector → ⊥) (λ vector. SpellsInt8 text vector) → (vector : List ℕ) → SpellsInt8 text vector → ⊥
 none_spelled None text e h = h
 none_spelled (Some v) text e h = absurd cc
@@ -44,10 +64,8 @@ only_bad : (bad : Concern) (place : ℕ) → (IsFine bad → ⊥) → place ≡ 
 only_bad bad place f e = record { before = []; bad = bad; behind = []; whole = refl; fine = tt; not_fine = f; place = e }
 
 -- a text that spells no vector
-pub bad_text : (place : ℕ) (text spelled : List ℕ) (given : Given) → given ≡ givens.Int8Text place text → spelled ≡ text → ((vector : List ℕ) → SpellsInt8 spelled vector → ⊥) → IsFirstBad (concerns_of given) place
-bad_text place text spelled given e k none =
-    subst (λ (g : Given). IsFirstBad (concerns_of g) place) (sym e)
-    (only_bad (literal place text) place (λ fine. none fine.0 (subst (λ (z : List ℕ). SpellsInt8 z fine.0) (sym k) fine.1)) refl)
+pub bad_text : (place : ℕ) (text : List ℕ) (given : Given) → given ≡ givens.Int8Text place text → ((vector : List ℕ) → SpellsInt8 text vector → ⊥) → IsFirstBad (concerns_of given) place
+bad_text place text given e none = subst (λ (g : Given). IsFirstBad (concerns_of g) place) (sym e) (only_bad (literal place text) place (λ fine. none fine.0 fine.1) refl)
 
 -- ---- lists, element by element
 
@@ -78,9 +96,6 @@ each_append M (w ∷ xs) (z ∷ ys) x y h k = (h.0, each_append M xs ys x y h.1 
 pub flat_more : {X A : Type 0} (f : X → List A) (xs : List X) (x : X) → flat_map f (xs ++ x ∷ []) ≡ flat_map f xs ++ f x
 flat_more f xs x = flat_map-append f xs (x ∷ []) ∙ ap (λ z. flat_map f xs ++ z) (append-nil (f x))
 
-pub progress_start : {X Y : Type 0} (cs : X → List Concern) (us : X → List Use) (params : List Value) (M : X → Y → Type 0) (made : List Y) → made ≡ [] → Progress cs us params M [] made
-progress_start cs us params M made e = record { fine = tt; means = λ taken. subst (λ z. Each M [] z) (sym e) tt }
-
 pub progress_more : {X Y : Type 0} (cs : X → List Concern) (us : X → List Use) (params : List Value) (M : X → Y → Type 0) (front more : List X) (x : X) (made new : List Y) (y : Y) →
     Progress cs us params M front made → IsMade (cs x) (AreTaken params (us x)) (M x) (Ok y) → more ≡ front ++ x ∷ [] → new ≡ made ++ y ∷ [] → Progress cs us params M more new
 progress_more cs us params M front more x made new y p m e k = record {
@@ -89,10 +104,6 @@ progress_more cs us params M front more x made new y p m e k = record {
       subst (λ z. Each M z new) (sym e) (subst (λ z. Each M (front ++ x ∷ []) z) (sym k)
       (each_append M front made x y (p.means (all_front (IsTaken params) (flat_map us front) (us x) all)) (m.1 (all_behind (IsTaken params) (flat_map us front) (us x) all)))));
 }
-
-pub progress_end : {X Y : Type 0} (cs : X → List Concern) (us : X → List Use) (params : List Value) (M : X → Y → Type 0) (front all : List X) (made : List Y) →
-    Progress cs us params M front made → front ≡ all → IsMade (flat_map cs all) (AreTaken params (flat_map us all)) (λ y. Each M all y) (Ok made)
-progress_end cs us params M front all made p e = subst (λ z. AreFine (flat_map cs z) × (AreTaken params (flat_map us z) → Each M z made)) e (p.fine, p.means)
 
 -- the first bad one behind fine ones
 bad_behind : (fine_ones all more : List Concern) (place : ℕ) → AreFine fine_ones → IsFirstBad all place → IsFirstBad (fine_ones ++ (all ++ more)) place
@@ -124,8 +135,12 @@ progress_flaw {X} {Y} cs us params M front rest all x made e p w m =
 pub taken_more : {X : Type 0} (xs : List X) (i : ℕ) (x : X) → i < length xs → x ≡ get_or xs i x → take (i + 1) xs ≡ take i xs ++ x ∷ []
 taken_more xs i x l e = take_more xs i x l ∙ ap (λ z. take i xs ++ z ∷ []) (sym e)
 
-pub split_at : {X : Type 0} (xs : List X) (i : ℕ) (x : X) → i < length xs → x ≡ get_or xs i x → xs ≡ take i xs ++ (x ∷ drop (i + 1) xs)
+split_at : {X : Type 0} (xs : List X) (i : ℕ) (x : X) → i < length xs → x ≡ get_or xs i x → xs ≡ take i xs ++ (x ∷ drop (i + 1) xs)
 split_at xs i x l e = sym (take-append-drop i xs) ∙ ap (λ z. take i xs ++ z) (drop_more xs i x l ∙ ap (λ z. z ∷ drop (i + 1) xs) (sym e))
+
+-- the next element of those that are moved out of a list
+pub split_next : {X : Type 0} (front all : List X) (x : X) → map (λ y. y) front ≡ take (length front) all → (length front < length all) × (x ≡ get_or all (length front) x) → all ≡ front ++ (x ∷ drop (length front + 1) all)
+split_next {X} front all x e h = split_at all (length front) x h.0 h.1 ∙ ap (λ (z : List X). z ++ (x ∷ drop (length front + 1) all)) (sym e ∙ map-id front)
 
 -- ---- two parts
 
@@ -134,6 +149,17 @@ flaw_first all more Taken Others M N e m = flaw_behind [] all more (all ++ more)
 
 pub flaw_second : {Y Z : Type 0} (fine_ones all : List Concern) (Taken Others : Type 0) (M : Y → Type 0) (N : Z → Type 0) (e : Flaw) → AreFine fine_ones → IsMade all Taken M (Err e) → IsMade (fine_ones ++ all) Others N (Err e)
 flaw_second fine_ones all Taken Others M N e f m = flaw_behind fine_ones all [] (fine_ones ++ all) Taken Others M N e f (ap (λ z. fine_ones ++ z) (sym (append-nil all))) m
+
+-- the same, handed on
+pub first_fails : {Y Z : Type 0} (all more : List Concern) (Taken Others : Type 0) (M : Y → Type 0) (N : Z → Type 0) (e : Flaw) (r : Result Z Flaw) → IsErrAnd r (λ d. d ≡ e) → IsMade all Taken M (Err e) → IsMade (all ++ more) Others N r
+first_fails {Y} {Z} all more Taken Others M N e r h m =
+    let p = err_from_is_err_and r h in
+    subst (λ (z : Result Z Flaw). IsMade (all ++ more) Others N z) (sym (p.1 ∙ ap Err p.2)) (flaw_first {Y = Y} {Z = Z} all more Taken Others M N e m)
+
+pub second_fails : {Y Z : Type 0} (fine_ones all : List Concern) (Taken Others : Type 0) (M : Y → Type 0) (N : Z → Type 0) (e : Flaw) (r : Result Z Flaw) → IsErrAnd r (λ d. d ≡ e) → AreFine fine_ones → IsMade all Taken M (Err e) → IsMade (fine_ones ++ all) Others N r
+second_fails {Y} {Z} fine_ones all Taken Others M N e r h f m =
+    let p = err_from_is_err_and r h in
+    subst (λ (z : Result Z Flaw). IsMade (fine_ones ++ all) Others N z) (sym (p.1 ∙ ap Err p.2)) (flaw_second {Y = Y} {Z = Z} fine_ones all Taken Others M N e f m)
 
 pub fine_both : (xs ys : List Concern) → AreFine xs → AreFine ys → AreFine (xs ++ ys)
 fine_both xs ys h k = all_append IsFine xs ys h k

@@ -69,7 +69,7 @@ untaken_more params seen used (Some index) n h = elim (cases_lt used.number inde
 
 -- ---- one parameter more
 
-pub use_noted : (params : List Value) (used : Use) (taken : Bool) (old new : Notes) → MatchBool taken (IsTaken params used) (IsTaken params used → ⊥) → new ≡ noted used.number taken old → NotesMore params (used ∷ []) old new
+use_noted : (params : List Value) (used : Use) (taken : Bool) (old new : Notes) → MatchBool taken (IsTaken params used) (IsTaken params used → ⊥) → new ≡ noted used.number taken old → NotesMore params (used ∷ []) old new
 use_noted params used true old new t e seen h =
     subst (λ (n : Notes). Noted params (seen ++ used ∷ []) n) (sym e) (record {
       greatest = ap (λ (n : ℕ). max n used.number) h.greatest ∙ sym (greatest_append seen used);

@@ -1,18 +1,18 @@
 -- The grammar's lines of statements and their factored forms are the same.
 use Rattle.std.proofs.Common.{◌≡◌, List, [], ◌∷◌, true, refl}
 use Rattle.std.specs.Prelude.{codes, ℕ}
-use Rattle.grammar.specs.Grammar.{Part, seq, alt, opt, means, a_word, a_mark, a_name, a_signed_number}
+use Rattle.grammar.specs.Grammar.{Part, seq, alt, opt, means, list_of, a_word, a_mark, a_name, a_signed_number}
 use Rattle.grammar.specs.inner.Reading.{or_default, decides, overlap}
 use Rattle.grammar.proofs.Factoring.{Within, Same, within_refl, within_left, within_right, within_later, within_either, within_means, within_seq, spread, same_refl, same_means, same_seq, same_alt, same_opt, same_many, same_behind, same_before}
 use Rattle.vec_base.specs.Words.{is_reserved}
 use Rattle.vec0_columns.specs.ColumnGrammar.{columns, metric, integer_word, boolean_word, int8, bits, chunk_size}
-use Rattle.vec0_columns.specs.inner.FactoredColumns.{factored_columns, key, integer_kind, text_kind, text_or_boolean, scalar_kind, kind, auxiliary_kind, factored_arg, tail}
+use Rattle.vec0_columns.specs.inner.FactoredColumns.{factored_columns, key, integer_kind, text_kind, text_or_boolean, scalar_kind, kind, auxiliary_kind, factored_arg}
 use Rattle.vec0_columns.proofs.ColumnLines.{columns_same}
 use Rattle.vec_sql.specs.declared.given.GivenTest.{GivenTest}
 use Rattle.vec_sql.specs.declared.given.GivenTerm.{GivenTerm}
 use Rattle.vec_sql.specs.declared.given.GivenStatement.TheVariants as statements
 use Rattle.vec_sql.specs.StatementGrammar.{term_of, comparison, member, match_of, term, where_part, or_none, order, by_distance, by_rowid, items_part, limit, select, create, drop_table, insert, assignment, update, delete, explain, begin, commit, rollback, savepoint, release, body, statement, op, value, vec_int8, vec_bit, group}
-use Rattle.vec_sql.specs.inner.FactoredStatements.{test, factored_term, more_terms, terms_list, factored_where, maybe_where, names_list, assignments_list, maybe_order, maybe_limit, factored_select, factored_create, factored_update, factored_delete, factored_explain, transaction, question, factored_body, factored_statement}
+use Rattle.vec_sql.specs.inner.FactoredStatements.{test, factored_term, terms_list, factored_where, maybe_where, maybe_order, maybe_limit, factored_select, factored_create, factored_update, factored_delete, factored_explain, transaction, question, factored_body, factored_statement}
 
 -- ---- terms
 
@@ -41,7 +41,7 @@ term_same = record {
 }
 
 where_same : Same factored_where where_part
-unfolding factored_where terms_list more_terms where_part
+unfolding factored_where terms_list where_part
 where_same =
     same_behind (a_word (codes "WHERE")) _ _
     (same_means (λ x. x.0 ∷ x.1) _ _ (same_seq factored_term term _ _ term_same (same_many _ _ (same_behind (a_word (codes "AND")) factored_term term term_same))))
@@ -76,13 +76,13 @@ create_same =
     (same_before (a_mark (codes ")")) factored_columns columns columns_same))))))))
 
 update_same : Same factored_update update
-unfolding factored_update update assignments_list
+unfolding factored_update update
 update_same =
     same_means (λ x. statements.Update x.0 x.1.0 x.1.1) _ _
     (same_behind (a_word (codes "UPDATE")) _ _
     (same_seq a_name a_name _ _ (same_refl a_name)
     (same_behind (a_word (codes "SET")) _ _
-    (same_seq assignments_list assignments_list maybe_where (or_none where_part) (same_refl assignments_list) maybe_where_same))))
+    (same_seq (list_of assignment) (list_of assignment) maybe_where (or_none where_part) (same_refl (list_of assignment)) maybe_where_same))))
 
 delete_same : Same factored_delete delete
 unfolding factored_delete delete
@@ -113,5 +113,5 @@ statement_same = same_before (opt (a_mark (codes ";"))) factored_body body body_
 
 -- the next token decides each choice
 pub statement_decides : decides factored_statement ≡ true
-unfolding factored_statement factored_body question transaction begin commit rollback savepoint release factored_explain factored_select factored_delete factored_update factored_create insert drop_table maybe_order maybe_limit maybe_where factored_where terms_list more_terms factored_term test comparison member match_of order by_distance by_rowid items_part limit assignment group value vec_int8 vec_bit op a_signed_number assignments_list names_list factored_columns tail factored_arg auxiliary_kind kind scalar_kind text_or_boolean text_kind integer_kind key metric integer_word boolean_word int8 bits chunk_size overlap is_reserved
+unfolding factored_statement factored_body question transaction begin commit rollback savepoint release factored_explain factored_select factored_delete factored_update factored_create insert drop_table maybe_order maybe_limit maybe_where factored_where terms_list factored_term test comparison member match_of order by_distance by_rowid items_part limit assignment group value vec_int8 vec_bit op a_signed_number factored_columns factored_arg auxiliary_kind kind scalar_kind text_or_boolean text_kind integer_kind key metric integer_word boolean_word int8 bits chunk_size overlap is_reserved
 statement_decides = refl

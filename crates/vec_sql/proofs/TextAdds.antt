@@ -9,10 +9,10 @@ use Rattle.vec_base.specs.Words.{is_small_word, is_name, is_reserved}
 use Rattle.vec_base.specs.declared.value.Op.{Op}
 use Rattle.vec_base.specs.declared.value.Op.TheVariants.{Eq, Ne, Lt, Le, Gt, Ge}
 use Rattle.vec_base.specs.declared.value.Value.{Value}
-use Rattle.vec_literal.specs.Held.{IsHeld}
+use Rattle.vec_base.specs.Representable.{IsRepresentable}
 use Rattle.vec_literal.specs.Lexemes.{Lexeme, word_lexeme, mark_lexeme}
 use Rattle.vec_literal.specs.Tokens.{is_word_text}
-use Rattle.vec_literal.specs.ValueTexts.{value_text}
+use Rattle.vec_text.specs.ValueTexts.{value_text}
 use Rattle.vec_literal.proofs.Adding.{Adds, anything, has_no_parameter, is_parameter, adds_nothing, adds_then, adds_as, adds_before, adds_space, adds_word, adds_words, adds_lone, adds_mark, adds_pair, adds_value, adds_name}
 use Rattle.vec_literal.proofs.ValuesBefore.{value_lexemes, ends_value, ended_number}
 use Rattle.row_model.specs.declared.schema.Column.{Column}
@@ -39,7 +39,7 @@ use Rattle.row_model.specs.WellFormed.{IsWellFormed, IsWellFormedInsert, IsWellF
 use Rattle.vec0_columns.specs.inner.CanonicalLexemes.{declared_lexemes, column_lexemes, canonical_lexemes}
 use Rattle.vec0_columns.proofs.Written.{small_word, canonical_before}
 use Rattle.vec_sql.specs.CanonicalStatements.{behind, separated, listed, name_text, group_text, op_text, test_text, term_text, where_text, assign_text, items_text, order_text, limit_text, select_text, insert_text, update_text, delete_text, begin_text, statement_text}
-use Rattle.vec_sql.specs.inner.HeldStatements.{AreHeld, IsHeldTest, IsHeldTerm, IsHeldAssign, IsHeldLimit, IsHeldSelect, IsHeldStatement}
+use Rattle.row_model.specs.RepresentableStatements.{AreRepresentable, IsRepresentableTest, IsRepresentableTerm, IsRepresentableAssign, IsRepresentableLimit, IsRepresentableSelect, IsRepresentableStatement}
 use Rattle.vec_sql.proofs.TextLexemes.{behind_lexemes, separated_lexemes, listed_lexemes, name_lexemes, group_lexemes, test_lexemes, term_lexemes, where_lexemes, assign_lexemes, items_lexemes, order_lexemes, limit_lexemes, select_lexemes, create_lexemes, insert_lexemes, update_lexemes, delete_lexemes, begin_lexemes, statement_lexemes}
 
 -- ---- words and names
@@ -104,9 +104,9 @@ each_both P Q (x ∷ xs) h k = ((h.0, k.0), each_both P Q xs h.1 k.1)
 adds_names : (names : List (List ℕ)) → list_all is_name names ≡ true → Adds (listed name_text names) ends_value (listed_lexemes name_lexemes names)
 adds_names names h = adds_listed name_text name_lexemes names (each-map (λ name. is_name name ≡ true) (λ name. Adds name ends_value (word_lexeme name ∷ [])) adds_named names (each_passes is_name names h))
 
-adds_group : (values : List Value) → AreHeld values → Adds (group_text values) anything (group_lexemes values)
+adds_group : (values : List Value) → AreRepresentable values → Adds (group_text values) anything (group_lexemes values)
 adds_group values h =
-    adds_then (adds_then (adds_lone 40 refl) (adds_listed value_text value_lexemes values (each-map IsHeld (λ v. Adds (value_text v) ends_value (value_lexemes v)) adds_value values h)) (λ rest e. refl))
+    adds_then (adds_then (adds_lone 40 refl) (adds_listed value_text value_lexemes values (each-map IsRepresentable (λ v. Adds (value_text v) ends_value (value_lexemes v)) adds_value values h)) (λ rest e. refl))
     (adds_lone 41 refl) (λ rest e. refl)
 
 -- ---- WHERE and SET
@@ -119,7 +119,7 @@ adds_op Le = adds_then (adds_pair 60 61 refl) adds_space (λ rest e. refl)
 adds_op Gt = adds_then (adds_mark 62 refl) adds_space (λ rest e. refl)
 adds_op Ge = adds_then (adds_pair 62 61 refl) adds_space (λ rest e. refl)
 
-adds_test : (test : Test) → IsHeldTest test → Adds (test_text test) ends_value (test_lexemes test)
+adds_test : (test : Test) → IsRepresentableTest test → Adds (test_text test) ends_value (test_lexemes test)
 adds_test (Compare op value) h = adds_then (adds_then adds_space (adds_op op) (λ rest e. refl)) (adds_value value h) (λ rest e. refl)
 adds_test (Member values) h = adds_then (spaced_words (codes "IN" ∷ []) refl) (adds_before (λ rest e. refl) (adds_group values h)) (λ rest e. refl)
 adds_test (Match value) h = adds_then (spaced_words (codes "MATCH" ∷ []) refl) (adds_value value h) (λ rest e. refl)
@@ -130,16 +130,16 @@ test_ends (Compare op value) rest = refl
 test_ends (Member values) rest = refl
 test_ends (Match value) rest = refl
 
-adds_term : (term : Constraint) → is_name term.column ≡ true → IsHeldTerm term → Adds (term_text term) ends_value (term_lexemes term)
+adds_term : (term : Constraint) → is_name term.column ≡ true → IsRepresentableTerm term → Adds (term_text term) ends_value (term_lexemes term)
 adds_term term n h = adds_then (adds_named term.column n) (adds_test term.test h) (λ rest e. test_ends term.test rest)
 
-adds_terms : (terms : List Constraint) → list_all is_term terms ≡ true → AllByRecursion IsHeldTerm terms → AllByRecursion (λ term. Adds (term_text term) ends_value (term_lexemes term)) terms
+adds_terms : (terms : List Constraint) → list_all is_term terms ≡ true → AllByRecursion IsRepresentableTerm terms → AllByRecursion (λ term. Adds (term_text term) ends_value (term_lexemes term)) terms
 adds_terms terms n h =
-    each-map (λ term. (is_term term ≡ true) × IsHeldTerm term) (λ term. Adds (term_text term) ends_value (term_lexemes term))
+    each-map (λ term. (is_term term ≡ true) × IsRepresentableTerm term) (λ term. Adds (term_text term) ends_value (term_lexemes term))
     (λ term both. adds_term term (and_parts (is_name term.column) (is_whole_test term.test) both.0).0 both.1) terms
-    (each_both (λ term. is_term term ≡ true) IsHeldTerm terms (each_passes is_term terms n) h)
+    (each_both (λ term. is_term term ≡ true) IsRepresentableTerm terms (each_passes is_term terms n) h)
 
-adds_where : (terms : List Constraint) → list_all is_term terms ≡ true → AllByRecursion IsHeldTerm terms → Adds (where_text terms) ends_value (where_lexemes terms)
+adds_where : (terms : List Constraint) → list_all is_term terms ≡ true → AllByRecursion IsRepresentableTerm terms → Adds (where_text terms) ends_value (where_lexemes terms)
 adds_where [] n h = adds_nothing
 adds_where (term ∷ terms) n h =
     adds_then (spaced_words (codes "WHERE" ∷ []) refl)
@@ -150,15 +150,15 @@ where_ends : (terms : List Constraint) (rest : List ℕ) → ends_value rest ≡
 where_ends [] rest e = e
 where_ends (term ∷ terms) rest e = refl
 
-adds_assign : (set : Assign) → is_name set.column ≡ true → IsHeldAssign set → Adds (assign_text set) ends_value (assign_lexemes set)
+adds_assign : (set : Assign) → is_name set.column ≡ true → IsRepresentableAssign set → Adds (assign_text set) ends_value (assign_lexemes set)
 adds_assign set n h =
     adds_then (adds_then (adds_named set.column n) (adds_then adds_space (adds_op Eq) (λ rest e. refl)) (λ rest e. refl)) (adds_value set.value h) (λ rest e. refl)
 
-adds_sets : (sets : List Assign) → list_all (λ set. is_name set.column) sets ≡ true → AllByRecursion IsHeldAssign sets → Adds (listed assign_text sets) ends_value (listed_lexemes assign_lexemes sets)
+adds_sets : (sets : List Assign) → list_all (λ set. is_name set.column) sets ≡ true → AllByRecursion IsRepresentableAssign sets → Adds (listed assign_text sets) ends_value (listed_lexemes assign_lexemes sets)
 adds_sets sets n h =
     adds_listed assign_text assign_lexemes sets
-    (each-map (λ set. (is_name set.column ≡ true) × IsHeldAssign set) (λ set. Adds (assign_text set) ends_value (assign_lexemes set)) (λ set both. adds_assign set both.0 both.1) sets
-    (each_both (λ set. is_name set.column ≡ true) IsHeldAssign sets (each_passes (λ set. is_name set.column) sets n) h))
+    (each-map (λ set. (is_name set.column ≡ true) × IsRepresentableAssign set) (λ set. Adds (assign_text set) ends_value (assign_lexemes set)) (λ set both. adds_assign set both.0 both.1) sets
+    (each_both (λ set. is_name set.column ≡ true) IsRepresentableAssign sets (each_passes (λ set. is_name set.column) sets n) h))
 
 -- ---- SELECT
 
@@ -176,7 +176,7 @@ order_ends Unsaid rest e = e
 order_ends ByDistance rest e = refl
 order_ends ByRowid rest e = refl
 
-adds_limit : (limit : Option Value) → IsHeldLimit limit → Adds (limit_text limit) ends_value (limit_lexemes limit)
+adds_limit : (limit : Option Value) → IsRepresentableLimit limit → Adds (limit_text limit) ends_value (limit_lexemes limit)
 adds_limit None h = adds_nothing
 adds_limit (Some value) h = adds_then (spaced_words (codes "LIMIT" ∷ []) refl) (adds_value value h) (λ rest e. refl)
 
@@ -189,7 +189,7 @@ six_behind : {A : Type 0} (a b c d e f : List A) → ((((a ++ b) ++ c) ++ d) ++ 
 six_behind a b c d e f =
     append_assoc (((a ++ b) ++ c) ++ d) e f ∙ append_assoc ((a ++ b) ++ c) d (e ++ f) ∙ append_assoc (a ++ b) c (d ++ (e ++ f)) ∙ append_assoc a b (c ++ (d ++ (e ++ f)))
 
-adds_select : (select : SelectRows) → IsWellFormedSelect select → IsHeldSelect select → Adds (select_text select) ends_value (select_lexemes select)
+adds_select : (select : SelectRows) → IsWellFormedSelect select → IsRepresentableSelect select → Adds (select_text select) ends_value (select_lexemes select)
 adds_select select formed held =
     let terms = (and_parts (list_all is_term select.where_terms) (nat_le (length select.where_terms) 64) formed.terms).0 in
     let items = adds_then (adds_words (codes "SELECT" ∷ []) refl) (adds_items select.items formed.items) (λ rest e. refl) in
@@ -243,10 +243,10 @@ adds_create table schema n valid =
     let columns = adds_then (adds_then first using (λ rest e. refl)) (adds_columns schema valid) (λ rest e. refl) in
     adds_before (λ rest e. refl) (adds_then columns (adds_lone 41 refl) (λ rest e. refl))
 
-adds_rows : (rows : List (List Value)) → AllByRecursion AreHeld rows → Adds (listed group_text rows) ends_value (listed_lexemes group_lexemes rows)
-adds_rows rows h = adds_listed group_text group_lexemes rows (each-map AreHeld (λ row. Adds (group_text row) ends_value (group_lexemes row)) (λ row held. adds_before (λ rest e. refl) (adds_group row held)) rows h)
+adds_rows : (rows : List (List Value)) → AllByRecursion AreRepresentable rows → Adds (listed group_text rows) ends_value (listed_lexemes group_lexemes rows)
+adds_rows rows h = adds_listed group_text group_lexemes rows (each-map AreRepresentable (λ row. Adds (group_text row) ends_value (group_lexemes row)) (λ row held. adds_before (λ rest e. refl) (adds_group row held)) rows h)
 
-adds_insert : (insert : InsertRows) → IsWellFormedInsert insert → AllByRecursion AreHeld insert.rows → Adds (insert_text insert) ends_value (insert_lexemes insert)
+adds_insert : (insert : InsertRows) → IsWellFormedInsert insert → AllByRecursion AreRepresentable insert.rows → Adds (insert_text insert) ends_value (insert_lexemes insert)
 adds_insert insert formed held =
     let names : List Lexeme = listed_lexemes name_lexemes insert.columns in
     let rows : List Lexeme = listed_lexemes group_lexemes insert.rows in
@@ -260,14 +260,14 @@ adds_insert insert formed held =
     (append_assoc (listed_lexemes name_lexemes insert.columns) (mark_lexeme (codes ")") ∷ word_lexeme (codes "VALUES") ∷ []) (listed_lexemes group_lexemes insert.rows)))
     (adds_then (adds_then columns closing (λ rest e. refl)) (adds_rows insert.rows held) (λ rest e. refl))
 
-adds_update : (update : UpdateRows) → IsWellFormedUpdate update → AllByRecursion IsHeldAssign update.sets → AllByRecursion IsHeldTerm update.where_terms → Adds (update_text update) ends_value (update_lexemes update)
+adds_update : (update : UpdateRows) → IsWellFormedUpdate update → AllByRecursion IsRepresentableAssign update.sets → AllByRecursion IsRepresentableTerm update.where_terms → Adds (update_text update) ends_value (update_lexemes update)
 adds_update update formed sets where_terms =
     let terms = (and_parts (list_all is_term update.where_terms) (nat_le (length update.where_terms) 64) formed.terms).0 in
     let first = adds_then (adds_words (codes "UPDATE" ∷ []) refl) (adds_named update.table formed.table) (λ rest e. refl) in
     let set = adds_then (adds_then first (spaced_words (codes "SET" ∷ []) refl) (λ rest e. refl)) (adds_sets update.sets formed.names sets) (λ rest e. refl) in
     adds_then set (adds_where update.where_terms terms where_terms) (λ rest e. where_ends update.where_terms rest e)
 
-adds_delete : (delete : DeleteRows) → IsWellFormedDelete delete → AllByRecursion IsHeldTerm delete.where_terms → Adds (delete_text delete) ends_value (delete_lexemes delete)
+adds_delete : (delete : DeleteRows) → IsWellFormedDelete delete → AllByRecursion IsRepresentableTerm delete.where_terms → Adds (delete_text delete) ends_value (delete_lexemes delete)
 adds_delete delete formed where_terms =
     let terms = (and_parts (list_all is_term delete.where_terms) (nat_le (length delete.where_terms) 64) formed.terms).0 in
     adds_then (adds_then (adds_words (codes "DELETE" ∷ codes "FROM" ∷ []) refl) (adds_named delete.table formed.table) (λ rest e. refl)) (adds_where delete.where_terms terms where_terms)
@@ -282,7 +282,7 @@ adds_with_name : (words : List (List ℕ)) (name : List ℕ) → list_all is_wor
     Adds (flat_map (λ word. word ++ codes " ") words ++ name) ends_value (map word_lexeme words ++ word_lexeme name ∷ [])
 adds_with_name words name w n = adds_then (adds_words words w) (adds_named name n) (λ rest e. refl)
 
-pub adds_statement : (statement : Statement) → IsWellFormed statement → IsHeldStatement statement → Adds (statement_text statement) ends_value (statement_lexemes statement)
+pub adds_statement : (statement : Statement) → IsWellFormed statement → IsRepresentableStatement statement → Adds (statement_text statement) ends_value (statement_lexemes statement)
 adds_statement (Create table schema) formed held = adds_create table schema formed.named formed.valid
 adds_statement (Drop table) formed held = adds_with_name (codes "DROP" ∷ codes "TABLE" ∷ []) table refl formed
 adds_statement (Insert insert) formed held = adds_insert insert formed held

@@ -3,14 +3,14 @@ use Rattle.std.proofs.Common.{◌≡◌, ℕ, suc, true, List, [], ◌∷◌, �
 use Rattle.std.specs.List.{flat_map, AllByRecursion}
 use Rattle.vec_base.specs.declared.value.Value.{Value}
 use Rattle.vec_base.specs.declared.value.Value.TheVariants as values
-use Rattle.vec_literal.specs.Held.{IsHeld}
-use Rattle.vec_literal.specs.Int8.{int8_text, SpellsInt8}
+use Rattle.vec_base.specs.Representable.{IsRepresentable}
+use Rattle.vec_literal.specs.Int8.{SpellsInt8}
 use Rattle.vec_literal.specs.Lexemes.{Lexeme, word_lexeme, mark_lexeme, text_lexeme, blob_lexeme}
-use Rattle.vec_literal.specs.ValueTexts.{quoted, blob_text}
+use Rattle.vec_text.specs.ValueTexts.{quoted, blob_text, int8_text}
 use Rattle.vec_literal.proofs.Int8Written.{bytes_spell}
 use Rattle.vec_literal.proofs.LiteralsBefore.{AllBytes, signed_lexemes}
 use Rattle.vec_literal.proofs.ValuesBefore.{value_lexemes, all_bytes, small_number}
-use Rattle.grammar.specs.Grammar.{Part, seq, many, means, ◌▸◌, a_word, a_mark, a_text, a_blob, a_signed_number}
+use Rattle.grammar.specs.Grammar.{Part, seq, many, list_of, means, ◌▸◌, a_word, a_mark, a_text, a_blob, a_signed_number}
 use Rattle.grammar.proofs.Lexemes.{LexemesSpell, of_means, of_word, of_mark}
 use Rattle.grammar.proofs.LexemesGive.{LexemesGive, give_known, give_seq, give_means, give_second, give_first, give_left, give_right, give_nothing, give_another}
 use Rattle.grammar.proofs.LiteralLexemes.{of_text, of_blob, of_signed_number, give_placed_text}
@@ -19,7 +19,7 @@ use Rattle.vec_sql.specs.declared.given.Given.{Given}
 use Rattle.vec_sql.specs.declared.given.Given.TheVariants as givens
 use Rattle.vec_sql.specs.GivenStatements.{concerns_of, uses_of}
 use Rattle.vec_sql.specs.StatementReading.{IsFine, Each, MeansValue}
-use Rattle.vec_sql.specs.StatementGrammar.{list_of, in_parentheses, vec_int8, vec_bit, value}
+use Rattle.vec_sql.specs.StatementGrammar.{in_parentheses, vec_int8, vec_bit, value}
 use Rattle.vec_sql.proofs.TextLexemes.{behind_lexemes, separated_lexemes, listed_lexemes}
 
 -- ---- lists
@@ -99,7 +99,7 @@ bits_given bytes h =
     give_second (of_word (codes "VEC_BIT") (codes "vec_bit") refl)
     (parentheses_given (give_left (give_known (λ g. StandsFor g (values.Bits bytes)) (as_it_is (values.Bits bytes)) (of_means (λ b. givens.Value (values.Bits b)) a_blob (blob_lexeme (blob_text bytes) ∷ []) bytes (of_blob bytes h)))))
 
-pub value_given : (v : Value) → IsHeld v → LexemesGive value (value_lexemes v) (λ g. StandsFor g v)
+pub value_given : (v : Value) → IsRepresentable v → LexemesGive value (value_lexemes v) (λ g. StandsFor g v)
 unfolding value
 value_given values.Null h =
     give_right (give_right (give_right (give_left (give_known (λ g. StandsFor g values.Null) (as_it_is values.Null)

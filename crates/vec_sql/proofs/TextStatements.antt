@@ -7,7 +7,7 @@ use Rattle.std.specs.List.{list_all, flat_map, AllByRecursion}
 use Rattle.vec_base.specs.Words.{is_name}
 use Rattle.vec_base.specs.declared.value.Value.{Value}
 use Rattle.vec_literal.specs.Lexemes.{Lexeme, word_lexeme, mark_lexeme}
-use Rattle.grammar.specs.Grammar.{Part, seq, alt, opt, means, ◌▸◌, ◌◂◌, a_word, a_mark, a_name}
+use Rattle.grammar.specs.Grammar.{Part, list_of, seq, alt, opt, means, ◌▸◌, ◌◂◌, a_word, a_mark, a_name}
 use Rattle.grammar.specs.inner.Reading.{or_default}
 use Rattle.grammar.proofs.Lexemes.{LexemesSpell, of_seq, of_means, of_second, of_first, of_left, of_right, of_none, of_some, of_word, of_mark}
 use Rattle.grammar.proofs.LexemesGive.{LexemesGive, give_known, give_more, give_seq, give_means, give_second, give_first, give_left, give_right, give_none, give_some}
@@ -33,9 +33,10 @@ use Rattle.vec_sql.specs.declared.given.GivenSelect.{GivenSelect}
 use Rattle.vec_sql.specs.declared.given.GivenStatement.{GivenStatement}
 use Rattle.vec_sql.specs.declared.given.GivenStatement.TheVariants as statements
 use Rattle.vec_sql.specs.GivenStatements.{concerns_of, in_limit, in_select, in_groups, in_terms, in_sets, group_concerns, uses, item_count, items_in, terms_in}
-use Rattle.vec_sql.specs.inner.HeldStatements.{AreHeld, IsHeldTerm, IsHeldAssign, IsHeldLimit, IsHeldSelect, IsHeldStatement}
+use Rattle.row_model.specs.RepresentableStatements.{AreRepresentable, IsRepresentableTerm, IsRepresentableAssign, IsRepresentableLimit, IsRepresentableSelect, IsRepresentableStatement}
 use Rattle.vec_sql.specs.StatementReading.{IsFine, Each, EachOption, MeansValue, MeansTerm, MeansAssign, MeansGroup, MeansSelect, Means, AllFine, count_fault, rule_fault}
-use Rattle.vec_sql.specs.StatementGrammar.{list_of, word_for, may_say, group, by_distance, by_rowid, order, items_part, limit, select, create, drop_table, insert, update, delete, explain, begin, commit, rollback_to, rollback, savepoint, release, body, statement}
+use Rattle.vec_sql.proofs.Filled.{filled_by}
+use Rattle.vec_sql.specs.StatementGrammar.{word_for, may_say, group, by_distance, by_rowid, order, items_part, limit, select, create, drop_table, insert, update, delete, explain, begin, commit, rollback_to, rollback, savepoint, release, body, statement}
 use Rattle.vec_sql.proofs.TextLexemes.{listed_lexemes, name_lexemes, group_lexemes, items_lexemes, order_lexemes, limit_lexemes, select_lexemes, create_lexemes, insert_lexemes, update_lexemes, delete_lexemes, begin_lexemes, statement_lexemes}
 use Rattle.vec_sql.proofs.TextParts.{each_more, each_length, each_same, AllGive, list_given, ArePlain, StandsFor, value_given}
 use Rattle.vec_sql.proofs.TextTerms.{both_good, none_plain, both_plain, values_plain, values_mean, IsTerm, where_given, terms_plain, IsAssign, sets_given, sets_plain, IsRow, row_given}
@@ -94,7 +95,7 @@ order_given orders.ByRowid =
     of_means (or_default orders.Unsaid) (opt order) (order_lexemes orders.ByRowid) (Some orders.ByRowid)
     (of_some order (order_lexemes orders.ByRowid) orders.ByRowid (order_spelled (codes "rowid") (alt by_distance by_rowid) orders.ByRowid (of_right rowid_spelled)))
 
-limit_given : (l : Option Value) → IsHeldLimit l → LexemesGive (opt limit) (limit_lexemes l) (λ o. EachOption StandsFor o l)
+limit_given : (l : Option Value) → IsRepresentableLimit l → LexemesGive (opt limit) (limit_lexemes l) (λ o. EachOption StandsFor o l)
 unfolding limit
 limit_given None held = give_none limit (λ o. EachOption StandsFor o None) tt
 limit_given (Some v) held = give_some (λ o. EachOption StandsFor o (Some v)) (λ g h. h) (give_second (of_word (codes "LIMIT") (codes "LIMIT") refl) (value_given v held))
@@ -118,7 +119,7 @@ record IsSelect (given : GivenSelect) (chosen : SelectRows) : Type 0 where
   few_items : item_count given.items ≤ 64
   few_terms : length given.where_terms ≤ 64
 
-select_given : (chosen : SelectRows) → IsWellFormedSelect chosen → IsHeldSelect chosen → LexemesGive select (select_lexemes chosen) (λ g. IsSelect g chosen)
+select_given : (chosen : SelectRows) → IsWellFormedSelect chosen → IsRepresentableSelect chosen → LexemesGive select (select_lexemes chosen) (λ g. IsSelect g chosen)
 unfolding select
 select_given chosen formed held =
     let terms = and_parts (list_all is_term chosen.where_terms) (nat_le (length chosen.where_terms) 64) formed.terms in
@@ -145,15 +146,11 @@ select_given chosen formed held =
 
 -- ---- rows
 
-filled_by : {A : Type 0} (xs : List A) → 0 < length xs → is_filled xs ≡ true
-filled_by [] h = absurd (omega arith)
-filled_by (x ∷ xs) h = refl
-
 some_by : {A : Type 0} (xs : List A) → is_filled xs ≡ true → 0 < length xs
 some_by [] h = absurd cc
 some_by (x ∷ xs) h = omega arith
 
-rows_all : (count : ℕ) (rows : List (List Value)) → 0 < count → list_all (λ row. length row == count) rows ≡ true → AllByRecursion AreHeld rows → AllGive group group_lexemes IsRow rows
+rows_all : (count : ℕ) (rows : List (List Value)) → 0 < count → list_all (λ row. length row == count) rows ≡ true → AllByRecursion AreRepresentable rows → AllGive group group_lexemes IsRow rows
 rows_all count [] some sized held = tt
 rows_all count (row ∷ rows) some sized held =
     let p = and_parts (length row == count) (list_all (λ r. length r == count) rows) sized in
@@ -215,7 +212,7 @@ drop_given table n =
     (give_second (of_word (codes "DROP") (codes "DROP") refl)
     (give_second (of_word (codes "TABLE") (codes "TABLE") refl) (give_known (λ (z : List ℕ). z ≡ table) refl (name_spelled table n))))
 
-insert_given : (chosen : InsertRows) → IsWellFormedInsert chosen → AllByRecursion AreHeld chosen.rows → LexemesGive insert (insert_lexemes chosen) (λ g. IsStatement g (read.Insert chosen))
+insert_given : (chosen : InsertRows) → IsWellFormedInsert chosen → AllByRecursion AreRepresentable chosen.rows → LexemesGive insert (insert_lexemes chosen) (λ g. IsStatement g (read.Insert chosen))
 unfolding insert
 insert_given chosen formed held =
     let seam = append_assoc (listed_lexemes name_lexemes chosen.columns) (mark_lexeme (codes ")") ∷ []) (word_lexeme (codes "VALUES") ∷ listed_lexemes group_lexemes chosen.rows) in
@@ -235,7 +232,7 @@ insert_given chosen formed held =
     (give_second (of_word (codes "VALUES") (codes "VALUES") refl)
     (list_given group group_lexemes IsRow chosen.rows formed.some_row (rows_all (length chosen.columns) chosen.rows (some_by chosen.columns formed.some_name) formed.one_value_each held))))))))
 
-update_given : (chosen : UpdateRows) → IsWellFormedUpdate chosen → AllByRecursion IsHeldAssign chosen.sets → AllByRecursion IsHeldTerm chosen.where_terms → LexemesGive update (update_lexemes chosen) (λ g. IsStatement g (read.Update chosen))
+update_given : (chosen : UpdateRows) → IsWellFormedUpdate chosen → AllByRecursion IsRepresentableAssign chosen.sets → AllByRecursion IsRepresentableTerm chosen.where_terms → LexemesGive update (update_lexemes chosen) (λ g. IsStatement g (read.Update chosen))
 unfolding update
 update_given chosen formed sets where_terms =
     let terms = and_parts (list_all is_term chosen.where_terms) (nat_le (length chosen.where_terms) 64) formed.terms in
@@ -262,7 +259,7 @@ update_given chosen formed sets where_terms =
     (give_second (of_word (codes "SET") (codes "SET") refl)
     (give_seq (sets_given chosen.sets formed.some_set formed.names sets) (where_given chosen.where_terms terms.0 where_terms)))))
 
-delete_given : (chosen : DeleteRows) → IsWellFormedDelete chosen → AllByRecursion IsHeldTerm chosen.where_terms → LexemesGive delete (delete_lexemes chosen) (λ g. IsStatement g (read.Delete chosen))
+delete_given : (chosen : DeleteRows) → IsWellFormedDelete chosen → AllByRecursion IsRepresentableTerm chosen.where_terms → LexemesGive delete (delete_lexemes chosen) (λ g. IsStatement g (read.Delete chosen))
 unfolding delete
 delete_given chosen formed where_terms =
     let terms = and_parts (list_all is_term chosen.where_terms) (nat_le (length chosen.where_terms) 64) formed.terms in
@@ -280,13 +277,13 @@ delete_given chosen formed where_terms =
     (give_second (of_word (codes "FROM") (codes "FROM") refl)
     (give_seq (give_known (λ (z : List ℕ). z ≡ chosen.table) refl (name_spelled chosen.table formed.table)) (where_given chosen.where_terms terms.0 where_terms))))
 
-chosen_given : (chosen : SelectRows) → IsWellFormedSelect chosen → IsHeldSelect chosen → LexemesGive (means (λ g. statements.Select g) select) (select_lexemes chosen) (λ g. IsStatement g (read.Select chosen))
+chosen_given : (chosen : SelectRows) → IsWellFormedSelect chosen → IsRepresentableSelect chosen → LexemesGive (means (λ g. statements.Select g) select) (select_lexemes chosen) (λ g. IsStatement g (read.Select chosen))
 chosen_given chosen formed held =
     give_means (λ g. statements.Select g) (λ g. IsStatement g (read.Select chosen))
     (λ g h. record { fine = h.plain.fine; unused = h.plain.unused; counts = counted (statements.Select g) h.few_items h.few_terms; rules = refl; means = (chosen, h.means, refl) })
     (select_given chosen formed held)
 
-explain_given : (chosen : SelectRows) → IsWellFormedSelect chosen → IsHeldSelect chosen → LexemesGive explain (statement_lexemes (read.Explain chosen)) (λ g. IsStatement g (read.Explain chosen))
+explain_given : (chosen : SelectRows) → IsWellFormedSelect chosen → IsRepresentableSelect chosen → LexemesGive explain (statement_lexemes (read.Explain chosen)) (λ g. IsStatement g (read.Explain chosen))
 unfolding explain
 explain_given chosen formed held =
     give_means (λ g. statements.Explain g) (λ g. IsStatement g (read.Explain chosen))
@@ -352,7 +349,7 @@ release_given name n =
 simply : (given : GivenStatement) (s : Statement) → AllFine given → uses given ≡ [] → count_fault given ≡ None → rule_fault given ≡ None → Means [] given s → IsStatement given s
 simply given s f u c r m = record { fine = f; unused = u; counts = c; rules = r; means = m }
 
-body_given : (s : Statement) → IsWellFormed s → IsHeldStatement s → LexemesGive body (statement_lexemes s) (λ g. IsStatement g s)
+body_given : (s : Statement) → IsWellFormed s → IsRepresentableStatement s → LexemesGive body (statement_lexemes s) (λ g. IsStatement g s)
 unfolding body
 body_given (read.Create table schema) formed held = give_left (create_given table schema formed.named formed.valid)
 body_given (read.Drop table) formed held = give_right (give_left (drop_given table formed))
@@ -380,7 +377,7 @@ body_given (read.Release name) formed held =
     give_right (give_right (give_right (give_right (give_right (give_right (give_right (give_right (give_right (give_right (give_right
     (give_known (λ g. IsStatement g (read.Release name)) (simply (statements.Release name) (read.Release name) tt refl refl refl refl) (release_given name formed))))))))))))
 
-pub statement_given : (s : Statement) → IsWellFormed s → IsHeldStatement s → LexemesGive statement (statement_lexemes s) (λ g. IsStatement g s)
+pub statement_given : (s : Statement) → IsWellFormed s → IsRepresentableStatement s → LexemesGive statement (statement_lexemes s) (λ g. IsStatement g s)
 unfolding statement
 statement_given s formed held =
     subst (λ (ls : List Lexeme). LexemesGive (body ◂ opt (a_mark (codes ";"))) ls (λ g. IsStatement g s)) (append-nil (statement_lexemes s))

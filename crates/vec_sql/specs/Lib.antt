@@ -2,4 +2,4 @@ pub mod CanonicalStatements
 pub mod GivenStatements
 pub mod StatementGrammar
 pub mod StatementReading
-mod inner
+pub mod inner

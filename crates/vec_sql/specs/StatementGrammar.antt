@@ -4,7 +4,7 @@ use Rattle.vec_base.specs.declared.value.Op.{Op}
 use Rattle.vec_base.specs.declared.value.Op.TheVariants as ops
 use Rattle.vec_base.specs.declared.value.Value.{Value}
 use Rattle.vec_base.specs.declared.value.Value.TheVariants as values
-use Rattle.grammar.specs.Grammar.{Part, seq, alt, opt, many, means, ◌▸◌, ◌◂◌, a_word, a_mark, a_placed_mark, a_name, a_text, a_placed_text, a_blob, a_parameter, a_signed_number}
+use Rattle.grammar.specs.Grammar.{Part, keyword, seq, alt, opt, means, ◌▸◌, ◌◂◌, parts_with, list_of, a_word, a_mark, a_placed_mark, a_name, a_text, a_placed_text, a_blob, a_parameter, a_signed_number}
 use Rattle.grammar.specs.inner.Reading.{or_default}
 use Rattle.row_model.specs.declared.statement.Items.{Items}
 use Rattle.row_model.specs.declared.statement.Items.TheVariants as items
@@ -23,10 +23,6 @@ use Rattle.vec_sql.specs.declared.given.GivenStatement.{GivenStatement}
 use Rattle.vec_sql.specs.declared.given.GivenStatement.TheVariants as statements
 
 -- ---- parts that stand in several lines
-
--- p {, p}
-abbrev pub list_of : {A : Type 0} → Part A → Part (List A)
-list_of p = means (λ x. x.0 ∷ x.1) (seq p (many (a_mark (codes ",") ▸ p)))
 
 -- ( p ), where the parentheses are marks
 abbrev pub in_parentheses : {A : Type 0} → Part A → Part A
@@ -111,7 +107,7 @@ term = alt (term_of comparison) (alt (term_of member) (term_of match_of))
 
 -- where  = WHERE term {AND term}
 unfoldable pub where_part : Part (List GivenTerm)
-where_part = a_word (codes "WHERE") ▸ means (λ x. x.0 ∷ x.1) (seq term (many (a_word (codes "AND") ▸ term)))
+where_part = a_word (codes "WHERE") ▸ parts_with (keyword (codes "AND")) term
 
 -- ---- SELECT
 

@@ -18,7 +18,7 @@ use vec0_columns::columns;
 
 /// Reads a CREATE.
 #[tactic(auto, unfolding(crate::specs::inner::FactoredStatements::factored_create))]
-fn create(alloc: Global, reader: &mut Reader<'_>) -> Result<GivenStatement, Stop>
+fn create<'a>(alloc: Global, reader: &mut Reader<'a>) -> Result<GivenStatement<'a>, Stop>
     ensures reads { Gives (λ x. x) result (read factored_create (rest_of reader.old)) (rest_of reader.new) }
     ensures formed { IfOk result (λ given. is_formed given ≡ true) }
 {
@@ -36,7 +36,7 @@ fn create(alloc: Global, reader: &mut Reader<'_>) -> Result<GivenStatement, Stop
 
 /// Reads a DROP.
 #[tactic(auto, unfolding(crate::specs::StatementGrammar::drop_table))]
-fn drop_table(reader: &mut Reader<'_>) -> Result<GivenStatement, Stop>
+fn drop_table<'a>(reader: &mut Reader<'a>) -> Result<GivenStatement<'a>, Stop>
     ensures reads { Gives (λ x. x) result (read drop_table (rest_of reader.old)) (rest_of reader.new) }
     ensures formed { IfOk result (λ given. is_formed given ≡ true) }
 {
@@ -47,8 +47,8 @@ fn drop_table(reader: &mut Reader<'_>) -> Result<GivenStatement, Stop>
 }
 
 /// Reads an INSERT.
-#[tactic(auto, unfolding(crate::specs::StatementGrammar::insert, crate::specs::inner::FactoredStatements::names_list, crate::specs::inner::FactoredStatements::groups_list))]
-fn insert(alloc: Global, reader: &mut Reader<'_>) -> Result<GivenStatement, Stop>
+#[tactic(auto, unfolding(crate::specs::StatementGrammar::insert))]
+fn insert<'a>(alloc: Global, reader: &mut Reader<'a>) -> Result<GivenStatement<'a>, Stop>
     ensures reads { Gives (λ x. x) result (read insert (rest_of reader.old)) (rest_of reader.new) }
     ensures formed { IfOk result (λ given. is_formed given ≡ true) }
 {
@@ -65,7 +65,7 @@ fn insert(alloc: Global, reader: &mut Reader<'_>) -> Result<GivenStatement, Stop
 
 /// Reads an UPDATE.
 #[tactic(auto, unfolding(crate::specs::inner::FactoredStatements::factored_update))]
-fn update(alloc: Global, reader: &mut Reader<'_>) -> Result<GivenStatement, Stop>
+fn update<'a>(alloc: Global, reader: &mut Reader<'a>) -> Result<GivenStatement<'a>, Stop>
     ensures reads { Gives (λ x. x) result (read factored_update (rest_of reader.old)) (rest_of reader.new) }
     ensures formed { IfOk result (λ given. is_formed given ≡ true) }
 {
@@ -79,7 +79,7 @@ fn update(alloc: Global, reader: &mut Reader<'_>) -> Result<GivenStatement, Stop
 
 /// Reads a DELETE.
 #[tactic(auto, unfolding(crate::specs::inner::FactoredStatements::factored_delete))]
-fn delete(alloc: Global, reader: &mut Reader<'_>) -> Result<GivenStatement, Stop>
+fn delete<'a>(alloc: Global, reader: &mut Reader<'a>) -> Result<GivenStatement<'a>, Stop>
     ensures reads { Gives (λ x. x) result (read factored_delete (rest_of reader.old)) (rest_of reader.new) }
     ensures formed { IfOk result (λ given. is_formed given ≡ true) }
 {
@@ -92,7 +92,7 @@ fn delete(alloc: Global, reader: &mut Reader<'_>) -> Result<GivenStatement, Stop
 
 /// Reads an EXPLAIN.
 #[tactic(auto, unfolding(crate::specs::inner::FactoredStatements::factored_explain))]
-fn explain(alloc: Global, reader: &mut Reader<'_>) -> Result<GivenStatement, Stop>
+fn explain<'a>(alloc: Global, reader: &mut Reader<'a>) -> Result<GivenStatement<'a>, Stop>
     ensures reads { Gives (λ x. x) result (read factored_explain (rest_of reader.old)) (rest_of reader.new) }
     ensures formed { IfOk result (λ given. is_formed given ≡ true) }
 {
@@ -138,7 +138,7 @@ fn maybe_mode(reader: &mut Reader<'_>) -> Result<bool, Stop>
 
 /// Reads a BEGIN.
 #[tactic(auto, unfolding(crate::specs::StatementGrammar::begin, crate::specs::inner::FactoredStatements::maybe_mode, crate::specs::inner::FactoredStatements::mode))]
-fn begin(reader: &mut Reader<'_>) -> Result<GivenStatement, Stop>
+fn begin<'a>(reader: &mut Reader<'a>) -> Result<GivenStatement<'a>, Stop>
     ensures reads { Gives (λ x. x) result (read begin (rest_of reader.old)) (rest_of reader.new) }
     ensures formed { IfOk result (λ given. is_formed given ≡ true) }
 {
@@ -158,7 +158,7 @@ fn at_commit(reader: &Reader<'_>) -> bool
 
 /// Reads a COMMIT.
 #[tactic(auto, unfolding(crate::specs::StatementGrammar::commit))]
-fn commit(reader: &mut Reader<'_>) -> Result<GivenStatement, Stop>
+fn commit<'a>(reader: &mut Reader<'a>) -> Result<GivenStatement<'a>, Stop>
     ensures reads { Gives (λ x. x) result (read commit (rest_of reader.old)) (rest_of reader.new) }
     ensures formed { IfOk result (λ given. is_formed given ≡ true) }
 {
@@ -186,7 +186,7 @@ fn target(reader: &mut Reader<'_>) -> Result<Txt, Stop>
 
 /// Reads a ROLLBACK.
 #[tactic(auto, unfolding(crate::specs::StatementGrammar::rollback, crate::specs::inner::FactoredStatements::target))]
-fn rollback(reader: &mut Reader<'_>) -> Result<GivenStatement, Stop>
+fn rollback<'a>(reader: &mut Reader<'a>) -> Result<GivenStatement<'a>, Stop>
     ensures reads { Gives (λ x. x) result (read rollback (rest_of reader.old)) (rest_of reader.new) }
     ensures formed { IfOk result (λ given. is_formed given ≡ true) }
 {
@@ -202,7 +202,7 @@ fn rollback(reader: &mut Reader<'_>) -> Result<GivenStatement, Stop>
 
 /// Reads a SAVEPOINT.
 #[tactic(auto, unfolding(crate::specs::StatementGrammar::savepoint))]
-fn savepoint(reader: &mut Reader<'_>) -> Result<GivenStatement, Stop>
+fn savepoint<'a>(reader: &mut Reader<'a>) -> Result<GivenStatement<'a>, Stop>
     ensures reads { Gives (λ x. x) result (read savepoint (rest_of reader.old)) (rest_of reader.new) }
     ensures formed { IfOk result (λ given. is_formed given ≡ true) }
 {
@@ -213,7 +213,7 @@ fn savepoint(reader: &mut Reader<'_>) -> Result<GivenStatement, Stop>
 
 /// Reads a RELEASE.
 #[tactic(auto, unfolding(crate::specs::StatementGrammar::release))]
-fn release(reader: &mut Reader<'_>) -> Result<GivenStatement, Stop>
+fn release<'a>(reader: &mut Reader<'a>) -> Result<GivenStatement<'a>, Stop>
     ensures reads { Gives (λ x. x) result (read release (rest_of reader.old)) (rest_of reader.new) }
     ensures formed { IfOk result (λ given. is_formed given ≡ true) }
 {
@@ -225,7 +225,7 @@ fn release(reader: &mut Reader<'_>) -> Result<GivenStatement, Stop>
 
 /// Reads a statement on transactions.
 #[tactic(auto, unfolding(crate::specs::inner::FactoredStatements::transaction, crate::specs::StatementGrammar::begin, crate::specs::StatementGrammar::rollback, crate::specs::StatementGrammar::savepoint))]
-fn transaction(reader: &mut Reader<'_>) -> Result<GivenStatement, Stop>
+fn transaction<'a>(reader: &mut Reader<'a>) -> Result<GivenStatement<'a>, Stop>
     ensures reads { Gives (λ x. x) result (read transaction (rest_of reader.old)) (rest_of reader.new) }
     ensures formed { IfOk result (λ given. is_formed given ≡ true) }
 {
@@ -244,7 +244,7 @@ fn transaction(reader: &mut Reader<'_>) -> Result<GivenStatement, Stop>
 
 /// Reads a SELECT, an EXPLAIN or a statement on transactions.
 #[tactic(auto, unfolding(crate::specs::inner::FactoredStatements::question, crate::specs::inner::FactoredStatements::factored_select, crate::specs::inner::FactoredStatements::factored_explain))]
-fn question(alloc: Global, reader: &mut Reader<'_>) -> Result<GivenStatement, Stop>
+fn question<'a>(alloc: Global, reader: &mut Reader<'a>) -> Result<GivenStatement<'a>, Stop>
     ensures reads { Gives (λ x. x) result (read question (rest_of reader.old)) (rest_of reader.new) }
     ensures formed { IfOk result (λ given. is_formed given ≡ true) }
 {
@@ -260,7 +260,7 @@ fn question(alloc: Global, reader: &mut Reader<'_>) -> Result<GivenStatement, St
 
 /// Reads a statement without its `;`.
 #[tactic(auto, unfolding(crate::specs::inner::FactoredStatements::factored_body, crate::specs::inner::FactoredStatements::factored_create, crate::specs::StatementGrammar::drop_table, crate::specs::StatementGrammar::insert, crate::specs::inner::FactoredStatements::factored_update, crate::specs::inner::FactoredStatements::factored_delete))]
-fn body(alloc: Global, reader: &mut Reader<'_>) -> Result<GivenStatement, Stop>
+fn body<'a>(alloc: Global, reader: &mut Reader<'a>) -> Result<GivenStatement<'a>, Stop>
     ensures reads { Gives (λ x. x) result (read factored_body (rest_of reader.old)) (rest_of reader.new) }
     ensures formed { IfOk result (λ given. is_formed given ≡ true) }
 {
@@ -281,7 +281,10 @@ fn body(alloc: Global, reader: &mut Reader<'_>) -> Result<GivenStatement, Stop>
 
 /// Reads a statement, with or without a `;` behind it.
 #[tactic(auto, unfolding(crate::specs::inner::FactoredStatements::factored_statement))]
-pub(crate) fn statement(alloc: Global, reader: &mut Reader<'_>) -> Result<GivenStatement, Stop>
+pub(crate) fn statement<'a>(
+    alloc: Global,
+    reader: &mut Reader<'a>,
+) -> Result<GivenStatement<'a>, Stop>
     ensures reads { Gives (λ x. x) result (read factored_statement (rest_of reader.old)) (rest_of reader.new) }
     ensures formed { IfOk result (λ given. is_formed given ≡ true) }
 {

@@ -8,6 +8,7 @@ mod list;
 mod made;
 mod meaning;
 mod parameters;
+mod part;
 mod piece;
 mod pieces;
 mod read;

@@ -1,14 +1,17 @@
-ghost use Rattle.std.specs.Prelude.{◌≡◌, IfOk, length};
+//! What the parts of a given statement mean: values, terms, columns with their values, and rows.
+ghost use Rattle.std.specs.Prelude.{◌≡◌, ◌++◌, IfOk};
 ghost use Rattle.std.specs.List.{flat_map};
 ghost use Rattle.vec_base.specs.declared.value.Value.TheVariants as values;
-ghost use Rattle.vec_sql.specs.GivenStatements.{concerns_of, group_concerns, uses_of};
-ghost use Rattle.vec_sql.specs.inner.PartMeanings.{AreTaken, IsMade, group_uses, set_concerns, set_uses, term_concerns, term_uses, test_concerns, test_uses};
-ghost use Rattle.vec_sql.specs.StatementReading.{Each, GivesBits, GivesInt8, MeansAssign, MeansGroup, MeansTerm, MeansTest, MeansValue, Takes, parameter};
-ghost use Rattle.vec_sql.specs.GivenStatements.{int8, bits};
+ghost use Rattle.vec_sql.specs.GivenStatements.{bits, int8, uses_of};
+ghost use Rattle.vec_sql.specs.inner.PartMeanings.{AreTaken, IsMade, limit_concerns, limit_uses, test_concerns, test_uses};
+ghost use Rattle.vec_sql.specs.inner.ParameterNotes.{NotesMore};
+ghost use Rattle.vec_sql.specs.StatementReading.{EachOption, GivesBits, GivesInt8, MeansTest, MeansValue, Takes, parameter};
 
 use crate::flaw::Flaw;
 use crate::given::{Given, GivenAssign, GivenTerm, GivenTest, Group};
-use crate::vector::{bits_from, int8_from, int8_of, parameter};
+use crate::parameters::{Notes, is_bits, is_int8};
+use crate::part::{GivenPart, make_each, note_each};
+use crate::vector::{bits_from, int8_from, int8_quoted, parameter};
 use row_model::{Assign, Constraint, Test};
 use std::alloc::Global;
 use vec_base::{List, Memory, Value};
@@ -49,120 +52,178 @@ fn bits_parameter(alloc: Global, params: &[Value], number: u16) -> Result<Value,
     }
 }
 
-/// The value that is given, where a parameter that is not taken counts as NULL.
-pub(crate) fn value_of(alloc: Global, given: &Given, params: &[Value]) -> Result<Value, Flaw>
-    ensures { IsMade (concerns_of given.now) (AreTaken params.now (uses_of given.now)) (MeansValue params.now given.now) result }
-{
-    match given {
-        Given::Value(value) => Ok(value.copy(alloc)?),
-        Given::Parameter(number) => Ok(parameter_value(alloc, params, *number)?),
-        Given::Int8Text(place, text) => match int8_of(alloc, text.as_text().as_bytes())? {
-            Some(vector) => Ok(Value::Int8(vector)),
-            None => Err(Flaw::Place(*place)),
-        },
-        Given::Int8Parameter(number) => Ok(int8_parameter(alloc, params, *number)?),
-        Given::BitsParameter(number) => Ok(bits_parameter(alloc, params, *number)?),
+impl<'a> GivenPart for Given<'a> {
+    ghost use Rattle.vec_sql.specs.GivenStatements.{concerns_of, uses_of};
+    ghost use Rattle.vec_sql.specs.StatementReading.{MeansValue};
+
+    type Made = Value;
+
+    ghost concerns = { λ names given. concerns_of given };
+
+    ghost uses = { uses_of };
+
+    ghost means = { MeansValue };
+
+    #[tactic(auto, using(crate::proofs::Noting::no_uses))]
+    fn note(&self, alloc: Global, notes: Notes, params: &[Value]) -> Result<Notes, Memory> {
+        match self {
+            Given::Value(_) => Ok(notes),
+            Given::Parameter(number) => Ok(notes.with(*number, true)),
+            Given::Int8Text(_, _) => Ok(notes),
+            Given::Int8Parameter(number) => {
+                let taken = is_int8(alloc, params, *number)?;
+                Ok(notes.with(*number, taken))
+            }
+            Given::BitsParameter(number) => {
+                let taken = is_bits(params, *number);
+                Ok(notes.with(*number, taken))
+            }
+        }
+    }
+
+    fn make(self, alloc: Global, _names: usize, params: &[Value]) -> Result<Value, Flaw> {
+        match self {
+            Given::Value(value) => Ok(value),
+            Given::Parameter(number) => Ok(parameter_value(alloc, params, number)?),
+            Given::Int8Text(place, text) => match int8_quoted(alloc, &text)? {
+                Some(vector) => Ok(Value::Int8(vector)),
+                None => Err(Flaw::Place(place)),
+            },
+            Given::Int8Parameter(number) => Ok(int8_parameter(alloc, params, number)?),
+            Given::BitsParameter(number) => Ok(bits_parameter(alloc, params, number)?),
+        }
     }
 }
 
-/// The values that are given.
-fn values_of(alloc: Global, givens: &[Given], params: &[Value]) -> Result<List<Value>, Flaw>
-    ensures { IsMade (flat_map concerns_of givens.now) (AreTaken params.now (flat_map uses_of givens.now)) (Each (MeansValue params.now) givens.now) result }
+/// The notes with the parameters of a test.
+#[tactic(auto, using(crate::proofs::Noting::one_value))]
+fn note_test(
+    alloc: Global,
+    notes: Notes,
+    test: &GivenTest<'_>,
+    params: &[Value],
+) -> Result<Notes, Memory>
+    ensures { IfOk result (λ new. NotesMore params.now (test_uses test.now) notes new) }
 {
-    let mut values = List::new(alloc);
-    for given in givens {
-        let value = value_of(alloc, given, params)?;
-        values.push(value)?;
+    match test {
+        GivenTest::Compare(_, given) => given.note(alloc, notes, params),
+        GivenTest::Member(givens) => note_each(alloc, notes, givens.as_slice(), params),
+        GivenTest::Match(given) => given.note(alloc, notes, params),
     }
-    Ok(values)
 }
 
 /// What a term asks.
-fn test_of(alloc: Global, test: &GivenTest, params: &[Value]) -> Result<Test, Flaw>
-    ensures { IsMade (test_concerns test.now) (AreTaken params.now (test_uses test.now)) (MeansTest params.now test.now) result }
+fn test_of(alloc: Global, test: GivenTest<'_>, params: &[Value]) -> Result<Test, Flaw>
+    ensures { IsMade (test_concerns test.entry) (AreTaken params.now (test_uses test.entry)) (MeansTest params.now test.entry) result }
 {
     match test {
-        GivenTest::Compare(op, given) => Ok(Test::Compare(*op, value_of(alloc, given, params)?)),
-        GivenTest::Member(givens) => Ok(Test::Member(values_of(alloc, givens.as_slice(), params)?)),
-        GivenTest::Match(given) => Ok(Test::Match(value_of(alloc, given, params)?)),
+        GivenTest::Compare(op, given) => Ok(Test::Compare(op, given.make(alloc, 0, params)?)),
+        GivenTest::Member(givens) => Ok(Test::Member(make_each(alloc, givens, 0, params)?)),
+        GivenTest::Match(given) => Ok(Test::Match(given.make(alloc, 0, params)?)),
     }
 }
 
-/// The term that is given.
-fn term_of(alloc: Global, term: &GivenTerm, params: &[Value]) -> Result<Constraint, Flaw>
-    ensures { IsMade (test_concerns term.now.test) (AreTaken params.now (test_uses term.now.test)) (MeansTerm params.now term.now) result }
-{
-    let test = test_of(alloc, &term.test, params)?;
-    let column = term.column.copy(alloc)?;
-    Ok(Constraint { column, test })
+impl<'a> GivenPart for GivenTerm<'a> {
+    ghost use Rattle.vec_sql.specs.inner.PartMeanings.{test_concerns, test_uses};
+    ghost use Rattle.vec_sql.specs.StatementReading.{MeansTerm};
+
+    type Made = Constraint;
+
+    ghost concerns = { λ names term. test_concerns term.test };
+
+    ghost uses = { λ term. test_uses term.test };
+
+    ghost means = { MeansTerm };
+
+    fn note(&self, alloc: Global, notes: Notes, params: &[Value]) -> Result<Notes, Memory> {
+        note_test(alloc, notes, &self.test, params)
+    }
+
+    fn make(self, alloc: Global, _names: usize, params: &[Value]) -> Result<Constraint, Flaw> {
+        let GivenTerm { column, test } = self;
+        let test = test_of(alloc, test, params)?;
+        Ok(Constraint { column, test })
+    }
 }
 
-/// The terms that are given.
-pub(crate) fn terms_of(
+impl<'a> GivenPart for GivenAssign<'a> {
+    ghost use Rattle.vec_sql.specs.GivenStatements.{concerns_of, uses_of};
+    ghost use Rattle.vec_sql.specs.StatementReading.{MeansAssign};
+
+    type Made = Assign;
+
+    ghost concerns = { λ names set. concerns_of set.value };
+
+    ghost uses = { λ set. uses_of set.value };
+
+    ghost means = { MeansAssign };
+
+    fn note(&self, alloc: Global, notes: Notes, params: &[Value]) -> Result<Notes, Memory> {
+        self.value.note(alloc, notes, params)
+    }
+
+    fn make(self, alloc: Global, names: usize, params: &[Value]) -> Result<Assign, Flaw> {
+        let GivenAssign { column, value } = self;
+        let value = value.make(alloc, names, params)?;
+        Ok(Assign { column, value })
+    }
+}
+
+impl<'a> GivenPart for Group<'a> {
+    ghost use Rattle.std.specs.List.{flat_map};
+    ghost use Rattle.vec_sql.specs.GivenStatements.{group_concerns, uses_of};
+    ghost use Rattle.vec_sql.specs.StatementReading.{MeansGroup};
+
+    type Made = List<Value>;
+
+    ghost concerns = { group_concerns };
+
+    ghost uses = { λ group. flat_map uses_of group.values };
+
+    ghost means = { MeansGroup };
+
+    fn note(&self, alloc: Global, notes: Notes, params: &[Value]) -> Result<Notes, Memory> {
+        note_each(alloc, notes, self.values.as_slice(), params)
+    }
+
+    fn make(self, alloc: Global, names: usize, params: &[Value]) -> Result<List<Value>, Flaw> {
+        let Group { values, close } = self;
+        let is_whole = values.len() == names;
+        let values = make_each(alloc, values, names, params)?;
+        if is_whole {
+            Ok(values)
+        } else {
+            Err(Flaw::Place(close))
+        }
+    }
+}
+
+/// The notes with the value of LIMIT.
+#[tactic(auto, using(crate::proofs::Noting::no_uses, crate::proofs::Noting::one_value))]
+pub(crate) fn note_limit(
     alloc: Global,
-    givens: &[GivenTerm],
+    notes: Notes,
+    limit: &Option<Given<'_>>,
     params: &[Value],
-) -> Result<List<Constraint>, Flaw>
-    ensures { IsMade (term_concerns givens.now) (AreTaken params.now (term_uses givens.now)) (Each (MeansTerm params.now) givens.now) result }
+) -> Result<Notes, Memory>
+    ensures { IfOk result (λ new. NotesMore params.now (limit_uses limit.now) notes new) }
 {
-    let mut terms = List::new(alloc);
-    for given in givens {
-        let term = term_of(alloc, given, params)?;
-        terms.push(term)?;
+    match limit {
+        Some(given) => given.note(alloc, notes, params),
+        None => Ok(notes),
     }
-    Ok(terms)
 }
 
-/// The column and its value, as they are given.
-fn set_of(alloc: Global, set: &GivenAssign, params: &[Value]) -> Result<Assign, Flaw>
-    ensures { IsMade (concerns_of set.now.value) (AreTaken params.now (uses_of set.now.value)) (MeansAssign params.now set.now) result }
-{
-    let value = value_of(alloc, &set.value, params)?;
-    let column = set.column.copy(alloc)?;
-    Ok(Assign { column, value })
-}
-
-/// The columns and their values, as they are given.
-pub(crate) fn sets_of(
+/// The value of LIMIT.
+pub(crate) fn limit_of(
     alloc: Global,
-    givens: &[GivenAssign],
+    limit: Option<Given<'_>>,
     params: &[Value],
-) -> Result<List<Assign>, Flaw>
-    ensures { IsMade (set_concerns givens.now) (AreTaken params.now (set_uses givens.now)) (Each (MeansAssign params.now) givens.now) result }
+) -> Result<Option<Value>, Flaw>
+    ensures { IsMade (limit_concerns limit.entry) (AreTaken params.now (limit_uses limit.entry)) (EachOption (MeansValue params.now) limit.entry) result }
 {
-    let mut sets = List::new(alloc);
-    for given in givens {
-        let set = set_of(alloc, given, params)?;
-        sets.push(set)?;
+    match limit {
+        Some(given) => Ok(Some(given.make(alloc, 0, params)?)),
+        None => Ok(None),
     }
-    Ok(sets)
-}
-
-/// The values of a row, of which there have to be as many as there are names.
-fn row_of(alloc: Global, group: &Group, count: usize, params: &[Value]) -> Result<List<Value>, Flaw>
-    ensures { IsMade (group_concerns count group.now) (AreTaken params.now (flat_map uses_of group.now.values)) (MeansGroup params.now group.now) result }
-{
-    let values = values_of(alloc, group.values.as_slice(), params)?;
-    if group.values.len() == count {
-        Ok(values)
-    } else {
-        Err(Flaw::Place(group.close))
-    }
-}
-
-/// The values of the rows, each of which has to have as many values as there are names.
-pub(crate) fn rows_of(
-    alloc: Global,
-    groups: &[Group],
-    count: usize,
-    params: &[Value],
-) -> Result<List<List<Value>>, Flaw>
-    ensures { IsMade (flat_map (group_concerns count) groups.now) (AreTaken params.now (group_uses groups.now)) (Each (MeansGroup params.now) groups.now) result }
-{
-    let mut rows = List::new(alloc);
-    for group in groups {
-        let row = row_of(alloc, group, count, params)?;
-        rows.push(row)?;
-    }
-    Ok(rows)
 }

@@ -1,12 +1,14 @@
+//! What is noted of the parameters of a statement, and the fault that they have.
 ghost use Rattle.std.specs.Prelude.{◌≡◌, ◌≤◌, ◌++◌, true, length, IfOk, MatchBool, MatchOption};
-ghost use Rattle.std.specs.List.{flat_map};
 ghost use Rattle.vec_sql.specs.inner.WellFormedGivens.{is_formed};
-ghost use Rattle.vec_sql.specs.GivenStatements.{bits, int8, uses, uses_of};
-ghost use Rattle.vec_sql.specs.inner.PartMeanings.{group_uses, limit_uses, ordered_uses, set_uses, term_uses, test_uses};
+ghost use Rattle.vec_sql.specs.GivenStatements.{bits, int8, uses};
+ghost use Rattle.vec_sql.specs.inner.PartMeanings.{limit_uses, ordered_uses, set_uses, term_uses};
 ghost use Rattle.vec_sql.specs.inner.ParameterNotes.{NotesMore, fault_of, lesser, noted};
 ghost use Rattle.vec_sql.specs.StatementReading.{IsParameterFault, ParametersFit, Takes, parameter};
 
-use crate::given::{Given, GivenAssign, GivenSelect, GivenStatement, GivenTerm, GivenTest, Group};
+use crate::given::{GivenAssign, GivenSelect, GivenStatement, GivenTerm};
+use crate::made::note_limit;
+use crate::part::note_each;
 use crate::vector::{int8_of, parameter};
 use std::alloc::Global;
 use vec_base::{Memory, Value};
@@ -21,7 +23,7 @@ pub(crate) struct Notes {
 
 impl Notes {
     /// The notes with a parameter more.
-    fn with(self, number: u16, taken: bool) -> Notes
+    pub(crate) fn with(self, number: u16, taken: bool) -> Notes
         ensures { result ≡ noted number taken self }
     {
         Notes {
@@ -46,7 +48,7 @@ fn lesser(number: u16, other: Option<u16>) -> u16
 }
 
 /// Whether VEC_INT8 takes the parameter.
-fn is_int8(alloc: Global, params: &[Value], number: u16) -> Result<bool, Memory>
+pub(crate) fn is_int8(alloc: Global, params: &[Value], number: u16) -> Result<bool, Memory>
     ensures { IfOk result (λ taken. MatchBool taken (Takes int8 (parameter params.now number)) (Takes int8 (parameter params.now number) → ⊥)) }
 {
     let Some(value) = parameter(params, number) else {
@@ -71,7 +73,7 @@ fn value_is_int8(alloc: Global, value: &Value) -> Result<bool, Memory>
 }
 
 /// Whether VEC_BIT takes the parameter.
-fn is_bits(params: &[Value], number: u16) -> bool
+pub(crate) fn is_bits(params: &[Value], number: u16) -> bool
     ensures { MatchBool result (Takes bits (parameter params.now number)) (Takes bits (parameter params.now number) → ⊥) }
 {
     match parameter(params, number) {
@@ -91,134 +93,17 @@ fn value_is_bits(value: &Value) -> bool
     }
 }
 
-/// The notes with what a value is given by.
-#[tactic(auto, using(crate::proofs::Noting::no_uses, crate::proofs::Noting::any_noted, crate::proofs::Noting::int8_noted, crate::proofs::Noting::bits_noted))]
-fn note_value(alloc: Global, notes: Notes, given: &Given, params: &[Value]) -> Result<Notes, Memory>
-    ensures { IfOk result (λ new. NotesMore params.now (uses_of given.now) notes new) }
-{
-    match given {
-        Given::Value(_) => Ok(notes),
-        Given::Parameter(number) => Ok(notes.with(*number, true)),
-        Given::Int8Text(_, _) => Ok(notes),
-        Given::Int8Parameter(number) => {
-            let taken = is_int8(alloc, params, *number)?;
-            Ok(notes.with(*number, taken))
-        }
-        Given::BitsParameter(number) => {
-            let taken = is_bits(params, *number);
-            Ok(notes.with(*number, taken))
-        }
-    }
-}
-
-/// The notes with what values are given by.
-fn note_values(
-    alloc: Global,
-    notes: Notes,
-    givens: &[Given],
-    params: &[Value],
-) -> Result<Notes, Memory>
-    ensures { IfOk result (λ new. NotesMore params.now (flat_map uses_of givens.now) notes new) }
-{
-    let mut noted = notes;
-    for given in givens {
-        noted = note_value(alloc, noted, given, params)?;
-    }
-    Ok(noted)
-}
-
-/// The notes with the values of a test.
-#[tactic(auto, using(crate::proofs::Noting::one_value))]
-fn note_test(
-    alloc: Global,
-    notes: Notes,
-    test: &GivenTest,
-    params: &[Value],
-) -> Result<Notes, Memory>
-    ensures { IfOk result (λ new. NotesMore params.now (test_uses test.now) notes new) }
-{
-    match test {
-        GivenTest::Compare(_, given) => note_value(alloc, notes, given, params),
-        GivenTest::Member(givens) => note_values(alloc, notes, givens.as_slice(), params),
-        GivenTest::Match(given) => note_value(alloc, notes, given, params),
-    }
-}
-
-/// The notes with the values of terms.
-fn note_terms(
-    alloc: Global,
-    notes: Notes,
-    terms: &[GivenTerm],
-    params: &[Value],
-) -> Result<Notes, Memory>
-    ensures { IfOk result (λ new. NotesMore params.now (term_uses terms.now) notes new) }
-{
-    let mut noted = notes;
-    for term in terms {
-        noted = note_test(alloc, noted, &term.test, params)?;
-    }
-    Ok(noted)
-}
-
-/// The notes with the values that columns are set to.
-fn note_sets(
-    alloc: Global,
-    notes: Notes,
-    sets: &[GivenAssign],
-    params: &[Value],
-) -> Result<Notes, Memory>
-    ensures { IfOk result (λ new. NotesMore params.now (set_uses sets.now) notes new) }
-{
-    let mut noted = notes;
-    for set in sets {
-        noted = note_value(alloc, noted, &set.value, params)?;
-    }
-    Ok(noted)
-}
-
-/// The notes with the values of rows.
-fn note_groups(
-    alloc: Global,
-    notes: Notes,
-    groups: &[Group],
-    params: &[Value],
-) -> Result<Notes, Memory>
-    ensures { IfOk result (λ new. NotesMore params.now (group_uses groups.now) notes new) }
-{
-    let mut noted = notes;
-    for group in groups {
-        noted = note_values(alloc, noted, group.values.as_slice(), params)?;
-    }
-    Ok(noted)
-}
-
-/// The notes with the value of LIMIT.
-#[tactic(auto, using(crate::proofs::Noting::no_uses, crate::proofs::Noting::one_value))]
-fn note_limit(
-    alloc: Global,
-    notes: Notes,
-    limit: &Option<Given>,
-    params: &[Value],
-) -> Result<Notes, Memory>
-    ensures { IfOk result (λ new. NotesMore params.now (limit_uses limit.now) notes new) }
-{
-    match limit {
-        Some(given) => note_value(alloc, notes, given, params),
-        None => Ok(notes),
-    }
-}
-
 /// The notes with the values of a SELECT.
 #[tactic(auto, using(crate::proofs::Noting::notes_joined))]
 fn note_select(
     alloc: Global,
     notes: Notes,
-    select: &GivenSelect,
+    select: &GivenSelect<'_>,
     params: &[Value],
 ) -> Result<Notes, Memory>
     ensures { IfOk result (λ new. NotesMore params.now (term_uses select.now.where_terms ++ limit_uses select.now.limit) notes new) }
 {
-    let noted = note_terms(alloc, notes, select.where_terms.as_slice(), params)?;
+    let noted = note_each(alloc, notes, select.where_terms.as_slice(), params)?;
     note_limit(alloc, noted, &select.limit, params)
 }
 
@@ -227,14 +112,14 @@ fn note_select(
 fn note_update(
     alloc: Global,
     notes: Notes,
-    sets: &[GivenAssign],
-    terms: &[GivenTerm],
+    sets: &[GivenAssign<'_>],
+    terms: &[GivenTerm<'_>],
     params: &[Value],
 ) -> Result<Notes, Memory>
     ensures { IfOk result (λ new. NotesMore params.now (set_uses sets.now ++ term_uses terms.now) notes new) }
 {
-    let noted = note_sets(alloc, notes, sets, params)?;
-    note_terms(alloc, noted, terms, params)
+    let noted = note_each(alloc, notes, sets, params)?;
+    note_each(alloc, noted, terms, params)
 }
 
 /// The notes with the values of a statement.
@@ -242,22 +127,17 @@ fn note_update(
 fn note_statement(
     alloc: Global,
     notes: Notes,
-    given: &GivenStatement,
+    given: &GivenStatement<'_>,
     params: &[Value],
 ) -> Result<Notes, Memory>
     ensures { IfOk result (λ new. NotesMore params.now (ordered_uses given.now) notes new) }
 {
     match given {
-        GivenStatement::Insert(_, _, groups) => note_groups(
-            alloc,
-            notes,
-            groups.as_slice(),
-            params,
-        ),
+        GivenStatement::Insert(_, _, groups) => note_each(alloc, notes, groups.as_slice(), params),
         GivenStatement::Update(_, sets, terms) => {
             note_update(alloc, notes, sets.as_slice(), terms.as_slice(), params)
         }
-        GivenStatement::Delete(_, terms) => note_terms(alloc, notes, terms.as_slice(), params),
+        GivenStatement::Delete(_, terms) => note_each(alloc, notes, terms.as_slice(), params),
         GivenStatement::Select(select) => note_select(alloc, notes, select, params),
         GivenStatement::Explain(select) => note_select(alloc, notes, select, params),
         _ => Ok(notes),
@@ -282,7 +162,7 @@ fn fault_of(notes: Notes, count: usize) -> Option<u16>
 /// The number of the parameter that is missing, too much, or the least one that is not taken, if there is a fault.
 pub(crate) fn parameter_fault(
     alloc: Global,
-    given: &GivenStatement,
+    given: &GivenStatement<'_>,
     params: &[Value],
 ) -> Result<Option<u16>, Memory>
     requires { is_formed given.now ≡ true }

@@ -1,5 +1,4 @@
 ghost use Rattle.std.specs.Prelude.{◌≡◌, ℕ, ◌++◌, List as Seq, codes, string_bytes, OnOk};
-ghost use Rattle.std.specs.List.{AllByRecursion};
 ghost use Rattle.vec_sql.specs.CanonicalStatements.{behind, separated, listed};
 
 use std::alloc::AllocError;
@@ -10,19 +9,14 @@ pub(crate) trait Piece {
     /// The text.
     ghost text_of: { Self → Seq ℕ };
 
-    /// What is known of the values in the part.
-    ghost held: { Self → Type 0 };
-
     /// Writes the part behind the text so far.
     fn write(&self, text: &mut String) -> Result<(), AllocError>
-        ensures text { OnOk result (string_bytes text.new ≡ string_bytes text.old ++ text_of self.now) }
-        ensures held { OnOk result (held self.now) };
+        ensures text { OnOk result (string_bytes text.new ≡ string_bytes text.old ++ text_of self.now) };
 }
 
 /// Writes the parts of a list.
 pub(crate) fn write_listed<P: Piece>(text: &mut String, pieces: &List<P>) -> Result<(), AllocError>
     ensures text { OnOk result (string_bytes text.new ≡ string_bytes text.old ++ listed P.text_of pieces.now) }
-    ensures held { OnOk result (AllByRecursion P.held pieces.now) }
 {
     write_separated(text, ", ", pieces.as_slice())
 }
@@ -34,7 +28,6 @@ pub(crate) fn write_separated<P: Piece>(
     pieces: &[P],
 ) -> Result<(), AllocError>
     ensures text { OnOk result (string_bytes text.new ≡ string_bytes text.old ++ separated separator.now P.text_of pieces.now) }
-    ensures held { OnOk result (AllByRecursion P.held pieces.now) }
 {
     match pieces {
         [] => Ok(()),
@@ -52,7 +45,6 @@ fn write_behind<P: Piece>(
     pieces: &[P],
 ) -> Result<(), AllocError>
     ensures text { OnOk result (string_bytes text.new ≡ string_bytes text.old ++ behind separator.now P.text_of pieces.now) }
-    ensures held { OnOk result (AllByRecursion P.held pieces.now) }
 {
     for piece in pieces {
         text.push_str(separator)?;

@@ -1,9 +1,11 @@
+//! Reading a statement.
 ghost use Rattle.std.specs.Prelude.{◌≡◌, ◌≤◌, ◌⊎◌, Err, IfErr, IfOk, Ok, true};
 ghost use Rattle.vec_base.specs.declared.refusal.Refusal.TheVariants.{WantOfMemory};
 ghost use Rattle.grammar.specs.Grammar.{Spells};
 ghost use Rattle.grammar.specs.Parameters.{numbered_tokens};
 ghost use Rattle.vec_sql.specs.declared.given.GivenStatement.{GivenStatement as Spelled};
 ghost use Rattle.vec_sql.specs.inner.WellFormedGivens.{is_formed};
+ghost use Rattle.row_model.specs.RepresentableStatements.{IsRepresentableStatement};
 ghost use Rattle.row_model.specs.WellFormed.{IsWellFormed};
 ghost use Rattle.row_model.specs.declared.statement.Statement.{Statement as Meant};
 ghost use Rattle.vec_sql.specs.GivenStatements.{item_count, items_in, terms_in};
@@ -22,7 +24,7 @@ use std::alloc::Global;
 use vec_base::{List, Refusal, Value};
 
 /// What the text gives, without a look at what it means.
-fn given_of(alloc: Global, text: &[u8]) -> Result<GivenStatement, Refusal>
+fn given_of(alloc: Global, text: &[u8]) -> Result<GivenStatement<'_>, Refusal>
     ensures spelled { IfOk result (λ given. Spells statement (numbered_tokens text.now) given) }
     ensures only { (given : Spelled) → Spells statement (numbered_tokens text.now) given → (result ≡ Ok given) ⊎ (result ≡ Err WantOfMemory) }
     ensures formed { IfOk result (λ given. is_formed given ≡ true) }
@@ -58,17 +60,18 @@ pub fn read_statement(
     ensures spelled { (statement : Meant) → SpellsStatement text.now params.now statement → (result ≡ Ok statement) ⊎ (result ≡ Err WantOfMemory) }
     ensures statement { IfOk result (λ statement. SpellsStatement text.now params.now statement) }
     ensures well_formed { IfOk result (λ statement. IsWellFormed statement) }
+    ensures representable { IfOk result (λ statement. IsRepresentableStatement statement) }
     ensures refusal { IfErr result (λ e. (e ≡ WantOfMemory) ⊎ IsRefusal text.now params.now e) }
 {
     if text.len() > 4_194_304 {
         return Err(Refusal::Syntax(4_194_304));
     }
     let given = given_of(alloc, text)?;
-    let made = statement_of(alloc, &given, params.as_slice());
-    match parameter_fault(alloc, &given, params.as_slice()) {
-        Ok(fault) => answered(made, fault, count_fault(&given)),
-        Err(_) => Err(Refusal::WantOfMemory),
-    }
+    let Ok(fault) = parameter_fault(alloc, &given, params.as_slice()) else {
+        return Err(Refusal::WantOfMemory);
+    };
+    let count = count_fault(&given);
+    answered(statement_of(alloc, given, params.as_slice()), fault, count)
 }
 
 /// The answer, where these are the faults of the parameters and of the counts.
@@ -77,13 +80,17 @@ fn answered(
     fault: Option<u16>,
     count: Option<u64>,
 ) -> Result<Statement, Refusal>
-    ensures { result ≡ answered made fault count }
+    ensures given { result ≡ answered made fault count }
+    ensures representable { IfOk result (λ statement. IsRepresentableStatement statement) }
 {
     match made {
         Err(Flaw::Memory) => Err(Refusal::WantOfMemory),
         Err(Flaw::Place(place)) => Err(Refusal::Syntax(place as u64)),
         Err(Flaw::Rule(rule)) => unless_later(later(fault, count), Err(Refusal::BadSchema(rule))),
-        Ok(statement) => unless_later(later(fault, count), Ok(statement)),
+        Ok(statement) => {
+            statement.representable();
+            unless_later(later(fault, count), Ok(statement))
+        }
     }
 }
 
@@ -112,7 +119,7 @@ fn unless_later(
 }
 
 /// The number of items, or else of terms, where it is over 64.
-fn count_fault(given: &GivenStatement) -> Option<u64>
+fn count_fault(given: &GivenStatement<'_>) -> Option<u64>
     ensures { result ≡ count_fault given.now }
 {
     let items = items_in(given);
@@ -127,7 +134,7 @@ fn count_fault(given: &GivenStatement) -> Option<u64>
 }
 
 /// The number of items of a SELECT that names them.
-fn items_in(given: &GivenStatement) -> usize
+fn items_in(given: &GivenStatement<'_>) -> usize
     ensures { result ≡ items_in given.now }
 {
     match given {
@@ -148,7 +155,7 @@ fn item_count(items: &Items) -> usize
 }
 
 /// The number of terms.
-fn terms_in(given: &GivenStatement) -> usize
+fn terms_in(given: &GivenStatement<'_>) -> usize
     ensures { result ≡ terms_in given.now }
 {
     match given {

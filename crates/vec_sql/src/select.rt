@@ -14,7 +14,7 @@ use row_model::{Items, Order};
 use std::alloc::Global;
 
 /// Reads `*` or names.
-#[tactic(auto, unfolding(crate::specs::StatementGrammar::items_part, crate::specs::inner::FactoredStatements::names_list))]
+#[tactic(auto, unfolding(crate::specs::StatementGrammar::items_part))]
 fn items(alloc: Global, reader: &mut Reader<'_>) -> Result<Items, Stop>
     ensures reads { Gives (λ x. x) result (read items_part (rest_of reader.old)) (rest_of reader.new) }
     ensures formed { IfOk result (λ items. are_formed_items items ≡ true) }
@@ -84,7 +84,7 @@ fn maybe_order(reader: &mut Reader<'_>) -> Result<Order, Stop>
 
 /// Reads LIMIT and its value.
 #[tactic(auto, unfolding(crate::specs::StatementGrammar::limit))]
-fn limit(reader: &mut Reader<'_>) -> Result<Given, Stop>
+fn limit<'a>(reader: &mut Reader<'a>) -> Result<Given<'a>, Stop>
     ensures reads { Gives (λ x. x) result (read limit (rest_of reader.old)) (rest_of reader.new) }
     ensures formed { IfOk result (λ given. is_formed_value given ≡ true) }
 {
@@ -94,7 +94,7 @@ fn limit(reader: &mut Reader<'_>) -> Result<Given, Stop>
 
 /// Reads LIMIT and its value, where it is at hand.
 #[tactic(auto, unfolding(crate::specs::inner::FactoredStatements::maybe_limit, crate::specs::StatementGrammar::limit))]
-fn maybe_limit(reader: &mut Reader<'_>) -> Result<Option<Given>, Stop>
+fn maybe_limit<'a>(reader: &mut Reader<'a>) -> Result<Option<Given<'a>>, Stop>
     ensures reads { Gives (λ x. x) result (read maybe_limit (rest_of reader.old)) (rest_of reader.new) }
     ensures formed { IfOk result (λ given. is_formed_limit given ≡ true) }
 {
@@ -108,7 +108,7 @@ fn maybe_limit(reader: &mut Reader<'_>) -> Result<Option<Given>, Stop>
 
 /// Reads a SELECT.
 #[tactic(auto, unfolding(crate::specs::inner::FactoredStatements::factored_select))]
-pub(crate) fn select(alloc: Global, reader: &mut Reader<'_>) -> Result<GivenSelect, Stop>
+pub(crate) fn select<'a>(alloc: Global, reader: &mut Reader<'a>) -> Result<GivenSelect<'a>, Stop>
     ensures reads { Gives (λ x. x) result (read factored_select (rest_of reader.old)) (rest_of reader.new) }
     ensures formed { IfOk result (λ select. is_formed_select select ≡ true) }
 {

@@ -1,21 +1,22 @@
+//! WHERE and its terms.
 ghost use Rattle.std.specs.Prelude.{◌≡◌, ◌&&◌, true, IfOk};
 ghost use Rattle.std.specs.List.{list_all};
 ghost use Rattle.grammar.specs.inner.ReaderResults.{rest_of, Gives};
 ghost use Rattle.grammar.specs.inner.Reading.{read};
 ghost use Rattle.vec_sql.specs.StatementGrammar.{comparison, match_of, member};
-ghost use Rattle.vec_sql.specs.inner.FactoredStatements.{factored_term, factored_where, maybe_where, more_terms, terms_list, test};
+ghost use Rattle.vec_sql.specs.inner.FactoredStatements.{factored_term, factored_where, maybe_where, terms_list, test};
 ghost use Rattle.vec_sql.specs.inner.WellFormedGivens.{is_formed_test, is_formed_term};
 
 use crate::given::{GivenTerm, GivenTest};
 use crate::list::values;
 use crate::value::{op, value};
-use grammar::{Reader, Stop};
+use grammar::{Item, Reader, Stop, listed};
 use std::alloc::Global;
 use vec_base::List;
 
 /// Reads an operator and a value.
 #[tactic(auto, unfolding(crate::specs::StatementGrammar::comparison))]
-fn comparison(reader: &mut Reader<'_>) -> Result<GivenTest, Stop>
+fn comparison<'a>(reader: &mut Reader<'a>) -> Result<GivenTest<'a>, Stop>
     ensures reads { Gives (λ x. x) result (read comparison (rest_of reader.old)) (rest_of reader.new) }
     ensures formed { IfOk result (λ test. is_formed_test test ≡ true) }
 {
@@ -25,8 +26,8 @@ fn comparison(reader: &mut Reader<'_>) -> Result<GivenTest, Stop>
 }
 
 /// Reads IN and its members.
-#[tactic(auto, unfolding(crate::specs::StatementGrammar::member, crate::specs::inner::FactoredStatements::values_list))]
-fn member(alloc: Global, reader: &mut Reader<'_>) -> Result<GivenTest, Stop>
+#[tactic(auto, unfolding(crate::specs::StatementGrammar::member))]
+fn member<'a>(alloc: Global, reader: &mut Reader<'a>) -> Result<GivenTest<'a>, Stop>
     ensures reads { Gives (λ x. x) result (read member (rest_of reader.old)) (rest_of reader.new) }
     ensures formed { IfOk result (λ test. is_formed_test test ≡ true) }
 {
@@ -39,7 +40,7 @@ fn member(alloc: Global, reader: &mut Reader<'_>) -> Result<GivenTest, Stop>
 
 /// Reads MATCH and its vector.
 #[tactic(auto, unfolding(crate::specs::StatementGrammar::match_of))]
-fn match_of(reader: &mut Reader<'_>) -> Result<GivenTest, Stop>
+fn match_of<'a>(reader: &mut Reader<'a>) -> Result<GivenTest<'a>, Stop>
     ensures reads { Gives (λ x. x) result (read match_of (rest_of reader.old)) (rest_of reader.new) }
     ensures formed { IfOk result (λ test. is_formed_test test ≡ true) }
 {
@@ -50,7 +51,7 @@ fn match_of(reader: &mut Reader<'_>) -> Result<GivenTest, Stop>
 
 /// Reads what is asked of a column.
 #[tactic(auto, unfolding(crate::specs::inner::FactoredStatements::test, crate::specs::StatementGrammar::member, crate::specs::StatementGrammar::match_of))]
-fn test(alloc: Global, reader: &mut Reader<'_>) -> Result<GivenTest, Stop>
+fn test<'a>(alloc: Global, reader: &mut Reader<'a>) -> Result<GivenTest<'a>, Stop>
     ensures reads { Gives (λ x. x) result (read test (rest_of reader.old)) (rest_of reader.new) }
     ensures formed { IfOk result (λ test. is_formed_test test ≡ true) }
 {
@@ -65,7 +66,7 @@ fn test(alloc: Global, reader: &mut Reader<'_>) -> Result<GivenTest, Stop>
 
 /// Reads a term.
 #[tactic(auto, unfolding(crate::specs::inner::FactoredStatements::factored_term))]
-pub(crate) fn term(alloc: Global, reader: &mut Reader<'_>) -> Result<GivenTerm, Stop>
+fn term<'a>(alloc: Global, reader: &mut Reader<'a>) -> Result<GivenTerm<'a>, Stop>
     ensures reads { Gives (λ x. x) result (read factored_term (rest_of reader.old)) (rest_of reader.new) }
     ensures formed { IfOk result (λ term. is_formed_term term ≡ true) }
 {
@@ -74,34 +75,43 @@ pub(crate) fn term(alloc: Global, reader: &mut Reader<'_>) -> Result<GivenTerm, 
     Ok(GivenTerm { column, test })
 }
 
-/// Reads AND and a term.
-#[tactic(auto, unfolding(crate::specs::inner::FactoredStatements::more_terms))]
-pub(crate) fn more_terms(alloc: Global, reader: &mut Reader<'_>) -> Result<GivenTerm, Stop>
-    ensures reads { Gives (λ x. x) result (read more_terms (rest_of reader.old)) (rest_of reader.new) }
-    ensures formed { IfOk result (λ term. is_formed_term term ≡ true) }
-{
-    reader.word(b"AND")?;
-    term(alloc, reader)
+impl<'a> Item<'a> for GivenTerm<'a> {
+    ghost use Rattle.std.specs.Prelude.{codes};
+    ghost use Rattle.grammar.specs.Grammar.{keyword};
+    ghost use Rattle.vec_sql.specs.inner.FactoredStatements.{factored_term};
+    ghost use Rattle.vec_sql.specs.inner.WellFormedGivens.{is_formed_term};
+
+    ghost part = { factored_term };
+
+    ghost formed = { is_formed_term };
+
+    ghost between = { keyword (codes "AND") };
+
+    fn read(alloc: Global, reader: &mut Reader<'a>) -> Result<GivenTerm<'a>, Stop> {
+        term(alloc, reader)
+    }
+
+    fn at_next(reader: &Reader<'a>) -> bool {
+        reader.at_word(b"AND")
+    }
+
+    fn pass(reader: &mut Reader<'a>) -> Result<(), Stop> {
+        reader.word(b"AND")
+    }
 }
 
 /// Reads terms with AND between them.
-pub(crate) fn terms(alloc: Global, reader: &mut Reader<'_>) -> Result<List<GivenTerm>, Stop>
+#[tactic(auto, unfolding(crate::specs::inner::FactoredStatements::terms_list))]
+fn terms<'a>(alloc: Global, reader: &mut Reader<'a>) -> Result<List<GivenTerm<'a>>, Stop>
     ensures reads { Gives (λ x. x) result (read terms_list (rest_of reader.old)) (rest_of reader.new) }
     ensures formed { IfOk result (λ terms. list_all is_formed_term terms ≡ true) }
 {
-    let first = term(alloc, reader)?;
-    let mut terms = List::new(alloc);
-    terms.push(first)?;
-    while reader.at_word(b"AND") {
-        let next = more_terms(alloc, reader)?;
-        terms.push(next)?;
-    }
-    Ok(terms)
+    listed(alloc, reader)
 }
 
 /// Reads WHERE and its terms.
 #[tactic(auto, unfolding(crate::specs::inner::FactoredStatements::factored_where))]
-fn where_part(alloc: Global, reader: &mut Reader<'_>) -> Result<List<GivenTerm>, Stop>
+fn where_part<'a>(alloc: Global, reader: &mut Reader<'a>) -> Result<List<GivenTerm<'a>>, Stop>
     ensures reads { Gives (λ x. x) result (read factored_where (rest_of reader.old)) (rest_of reader.new) }
     ensures formed { IfOk result (λ terms. list_all is_formed_term terms ≡ true) }
 {
@@ -111,7 +121,10 @@ fn where_part(alloc: Global, reader: &mut Reader<'_>) -> Result<List<GivenTerm>,
 
 /// Reads WHERE and its terms, or no terms where there is none.
 #[tactic(auto, unfolding(crate::specs::inner::FactoredStatements::maybe_where, crate::specs::inner::FactoredStatements::factored_where))]
-pub(crate) fn maybe_where(alloc: Global, reader: &mut Reader<'_>) -> Result<List<GivenTerm>, Stop>
+pub(crate) fn maybe_where<'a>(
+    alloc: Global,
+    reader: &mut Reader<'a>,
+) -> Result<List<GivenTerm<'a>>, Stop>
     ensures reads { Gives (λ x. x) result (read maybe_where (rest_of reader.old)) (rest_of reader.new) }
     ensures formed { IfOk result (λ terms. list_all is_formed_term terms ≡ true) }
 {

@@ -23,12 +23,12 @@ pub(crate) fn may_say(reader: &mut Reader<'_>, word: &[u8]) -> Result<bool, Stop
 
 /// Reads what VEC_INT8 is given.
 #[tactic(auto, unfolding(crate::specs::inner::FactoredStatements::int8_operand))]
-fn int8_operand(reader: &mut Reader<'_>) -> Result<Given, Stop>
+fn int8_operand<'a>(reader: &mut Reader<'a>) -> Result<Given<'a>, Stop>
     ensures reads { Gives (λ x. x) result (read int8_operand (rest_of reader.old)) (rest_of reader.new) }
     ensures formed { IfOk result (λ given. is_formed_value given ≡ true) }
 {
     if reader.at_text() {
-        let (place, text) = reader.placed_text()?;
+        let (place, text) = reader.quoted()?;
         Ok(Given::Int8Text(place, text))
     } else if reader.at_blob() {
         let bytes = reader.blob()?;
@@ -41,7 +41,7 @@ fn int8_operand(reader: &mut Reader<'_>) -> Result<Given, Stop>
 
 /// Reads an int8 vector.
 #[tactic(auto, unfolding(crate::specs::StatementGrammar::vec_int8, crate::specs::inner::FactoredStatements::int8_operand))]
-fn vec_int8(reader: &mut Reader<'_>) -> Result<Given, Stop>
+fn vec_int8<'a>(reader: &mut Reader<'a>) -> Result<Given<'a>, Stop>
     ensures reads { Gives (λ x. x) result (read vec_int8 (rest_of reader.old)) (rest_of reader.new) }
     ensures formed { IfOk result (λ given. is_formed_value given ≡ true) }
 {
@@ -54,7 +54,7 @@ fn vec_int8(reader: &mut Reader<'_>) -> Result<Given, Stop>
 
 /// Reads what VEC_BIT is given.
 #[tactic(auto, unfolding(crate::specs::inner::FactoredStatements::bits_operand))]
-fn bits_operand(reader: &mut Reader<'_>) -> Result<Given, Stop>
+fn bits_operand<'a>(reader: &mut Reader<'a>) -> Result<Given<'a>, Stop>
     ensures reads { Gives (λ x. x) result (read bits_operand (rest_of reader.old)) (rest_of reader.new) }
     ensures formed { IfOk result (λ given. is_formed_value given ≡ true) }
 {
@@ -69,7 +69,7 @@ fn bits_operand(reader: &mut Reader<'_>) -> Result<Given, Stop>
 
 /// Reads a bit vector.
 #[tactic(auto, unfolding(crate::specs::StatementGrammar::vec_bit, crate::specs::inner::FactoredStatements::bits_operand))]
-fn vec_bit(reader: &mut Reader<'_>) -> Result<Given, Stop>
+fn vec_bit<'a>(reader: &mut Reader<'a>) -> Result<Given<'a>, Stop>
     ensures reads { Gives (λ x. x) result (read vec_bit (rest_of reader.old)) (rest_of reader.new) }
     ensures formed { IfOk result (λ given. is_formed_value given ≡ true) }
 {
@@ -82,7 +82,7 @@ fn vec_bit(reader: &mut Reader<'_>) -> Result<Given, Stop>
 
 /// Reads a parameter or a vector.
 #[tactic(auto, unfolding(crate::specs::inner::FactoredStatements::operand, crate::specs::StatementGrammar::vec_int8))]
-fn operand(reader: &mut Reader<'_>) -> Result<Given, Stop>
+fn operand<'a>(reader: &mut Reader<'a>) -> Result<Given<'a>, Stop>
     ensures reads { Gives (λ x. x) result (read operand (rest_of reader.old)) (rest_of reader.new) }
     ensures formed { IfOk result (λ given. is_formed_value given ≡ true) }
 {
@@ -98,7 +98,7 @@ fn operand(reader: &mut Reader<'_>) -> Result<Given, Stop>
 
 /// Reads a value that is no literal.
 #[tactic(auto, unfolding(crate::specs::inner::FactoredStatements::word_value))]
-fn word_value(reader: &mut Reader<'_>) -> Result<Given, Stop>
+fn word_value<'a>(reader: &mut Reader<'a>) -> Result<Given<'a>, Stop>
     ensures reads { Gives (λ x. x) result (read word_value (rest_of reader.old)) (rest_of reader.new) }
     ensures formed { IfOk result (λ given. is_formed_value given ≡ true) }
 {
@@ -118,7 +118,7 @@ fn word_value(reader: &mut Reader<'_>) -> Result<Given, Stop>
 
 /// Reads a value.
 #[tactic(auto, unfolding(crate::specs::StatementGrammar::value, crate::specs::inner::FactoredStatements::word_value, crate::specs::inner::FactoredStatements::operand))]
-pub(crate) fn value(reader: &mut Reader<'_>) -> Result<Given, Stop>
+pub(crate) fn value<'a>(reader: &mut Reader<'a>) -> Result<Given<'a>, Stop>
     ensures reads { Gives (λ x. x) result (read value (rest_of reader.old)) (rest_of reader.new) }
     ensures formed { IfOk result (λ given. is_formed_value given ≡ true) }
 {

@@ -1,9 +1,11 @@
+//! Vectors that texts and parameters give.
 ghost use Rattle.std.specs.Prelude.{◌≡◌, ℕ, List, IfOk, MatchOption};
 ghost use Rattle.vec_base.specs.declared.value.Value.TheVariants as values;
 ghost use Rattle.vec_literal.specs.Int8.{SpellsInt8};
 ghost use Rattle.vec_sql.specs.GivenStatements.{int8, bits};
 ghost use Rattle.vec_sql.specs.StatementReading.{Takes, GivesInt8, GivesBits, parameter};
 
+use grammar::Quoted;
 use std::alloc::Global;
 use vec_base::{Bytes, Memory, Value};
 use vec_literal::{LitFault, read_int8};
@@ -26,6 +28,13 @@ pub(crate) fn int8_of(alloc: Global, text: &[u8]) -> Result<Option<Bytes>, Memor
         Err(LitFault::Range(_)) => Ok(None),
         Err(LitFault::OddHex) => Ok(None),
     }
+}
+
+/// The int8 vector that is quoted, if one is. No vector's text has a quote, so it is read as it is spelled.
+pub(crate) fn int8_quoted(alloc: Global, quoted: &Quoted<'_>) -> Result<Option<Bytes>, Memory>
+    ensures { IfOk result (λ read. MatchOption read ((vector : List ℕ) → SpellsInt8 quoted.now vector → ⊥) (λ vector. SpellsInt8 quoted.now vector)) }
+{
+    int8_of(alloc, quoted.spelling())
 }
 
 /// The int8 vector that a parameter's value gives, if it gives one.

@@ -3,14 +3,13 @@ ghost use Rattle.std.specs.List.{AllByRecursion};
 ghost use Rattle.row_model.specs.CanonicalColumns.{canonical_columns};
 ghost use Rattle.row_model.specs.WellFormed.{IsWellFormed};
 ghost use Rattle.vec_sql.specs.CanonicalStatements.{begin_text, where_text, items_text, order_text, limit_text, select_text, insert_text, update_text, delete_text, statement_text};
-ghost use Rattle.vec_sql.specs.inner.HeldStatements.{AreHeld, IsHeldAssign, IsHeldTerm, IsHeldLimit, IsHeldSelect, IsHeldStatement};
 ghost use Rattle.vec_sql.specs.StatementReading.{SpellsStatement};
 
 use crate::piece::{Piece, write_listed, write_separated};
 use row_model::{Constraint, Delete, Insert, Items, Order, Schema, Select, Statement, Update};
 use std::alloc::{AllocError, Global};
 use vec_base::{List, Memory, Txt, Value};
-use vec_literal::write_value;
+use vec_text::put_value;
 use vec0_columns::write_columns;
 
 /// The canonical text of the statement. Where the statement is well formed and the text is not too long, reading the text
@@ -19,6 +18,7 @@ pub fn write_statement(alloc: Global, statement: &Statement) -> Result<Txt, Memo
     ensures text { IfOk result (λ text. text ≡ statement_text statement.now) }
     ensures reads_back { IsWellFormed statement.now → IfOk result (λ text. length text ≤ 4194304 → SpellsStatement text [] statement.now) }
 {
+    statement.representable();
     let mut text = String::new(alloc);
     write(alloc, &mut text, statement)?;
     Ok(Txt::from_string(text))
@@ -27,7 +27,6 @@ pub fn write_statement(alloc: Global, statement: &Statement) -> Result<Txt, Memo
 /// Writes the statement.
 fn write(alloc: Global, text: &mut String, statement: &Statement) -> Result<(), Memory>
     ensures text { OnOk result (string_bytes text.new ≡ string_bytes text.old ++ statement_text statement.now) }
-    ensures held { OnOk result (IsHeldStatement statement.now) }
 {
     match statement {
         Statement::Create(table, schema) => write_create(alloc, text, table, schema)?,
@@ -87,7 +86,6 @@ fn write_create(
 /// Writes an INSERT.
 fn write_insert(text: &mut String, insert: &Insert) -> Result<(), AllocError>
     ensures text { OnOk result (string_bytes text.new ≡ string_bytes text.old ++ insert_text insert.now) }
-    ensures held { OnOk result (AllByRecursion AreHeld insert.now.rows) }
 {
     text.push_str("INSERT INTO ")?;
     insert.table.write(text)?;
@@ -100,7 +98,6 @@ fn write_insert(text: &mut String, insert: &Insert) -> Result<(), AllocError>
 /// Writes an UPDATE.
 fn write_update(text: &mut String, update: &Update) -> Result<(), AllocError>
     ensures text { OnOk result (string_bytes text.new ≡ string_bytes text.old ++ update_text update.now) }
-    ensures held { OnOk result (AllByRecursion IsHeldAssign update.now.sets × AllByRecursion IsHeldTerm update.now.where_terms) }
 {
     text.push_str("UPDATE ")?;
     update.table.write(text)?;
@@ -112,7 +109,6 @@ fn write_update(text: &mut String, update: &Update) -> Result<(), AllocError>
 /// Writes a DELETE.
 fn write_delete(text: &mut String, delete: &Delete) -> Result<(), AllocError>
     ensures text { OnOk result (string_bytes text.new ≡ string_bytes text.old ++ delete_text delete.now) }
-    ensures held { OnOk result (AllByRecursion IsHeldTerm delete.now.where_terms) }
 {
     text.push_str("DELETE FROM ")?;
     delete.table.write(text)?;
@@ -122,7 +118,6 @@ fn write_delete(text: &mut String, delete: &Delete) -> Result<(), AllocError>
 /// Writes an EXPLAIN.
 fn write_explain(text: &mut String, select: &Select) -> Result<(), AllocError>
     ensures text { OnOk result (string_bytes text.new ≡ string_bytes text.old ++ (codes "EXPLAIN " ++ select_text select.now)) }
-    ensures held { OnOk result (IsHeldSelect select.now) }
 {
     text.push_str("EXPLAIN ")?;
     write_select(text, select)
@@ -131,7 +126,6 @@ fn write_explain(text: &mut String, select: &Select) -> Result<(), AllocError>
 /// Writes a SELECT.
 fn write_select(text: &mut String, select: &Select) -> Result<(), AllocError>
     ensures text { OnOk result (string_bytes text.new ≡ string_bytes text.old ++ select_text select.now) }
-    ensures held { OnOk result (IsHeldSelect select.now) }
 {
     text.push_str("SELECT ")?;
     write_items(text, &select.items)?;
@@ -155,7 +149,6 @@ fn write_items(text: &mut String, items: &Items) -> Result<(), AllocError>
 /// Writes the terms of WHERE, or nothing where there is none.
 fn write_where(text: &mut String, terms: &List<Constraint>) -> Result<(), AllocError>
     ensures text { OnOk result (string_bytes text.new ≡ string_bytes text.old ++ where_text terms.now) }
-    ensures held { OnOk result (AllByRecursion IsHeldTerm terms.now) }
 {
     if terms.is_empty() {
         return Ok(());
@@ -178,13 +171,12 @@ fn order_words(order: Order) -> &'static str
 /// Writes LIMIT with its value, or nothing where there is none.
 fn write_limit(text: &mut String, limit: &Option<Value>) -> Result<(), AllocError>
     ensures text { OnOk result (string_bytes text.new ≡ string_bytes text.old ++ limit_text limit.now) }
-    ensures held { OnOk result (IsHeldLimit limit.now) }
 {
     match limit {
         None => Ok(()),
         Some(value) => {
             text.push_str(" LIMIT ")?;
-            write_value(text, value)
+            put_value(text, value)
         }
     }
 }

@@ -3,7 +3,7 @@ use Rattle.std.specs.Prelude.{ℕ, pos, Bool, true, false, List, ◌∷◌, Opti
 use Rattle.vec_base.specs.declared.value.Op.{Op}
 use Rattle.vec_base.specs.declared.value.Op.TheVariants as ops
 use Rattle.vec_base.specs.declared.value.Value.TheVariants as values
-use Rattle.grammar.specs.Grammar.{Part, seq, alt, opt, many, means, ◌▸◌, ◌◂◌, a_word, a_mark, a_name, a_placed_text, a_blob, a_parameter}
+use Rattle.grammar.specs.Grammar.{Part, keyword, seq, alt, opt, means, ◌▸◌, ◌◂◌, parts_with, list_of, a_word, a_mark, a_name, a_placed_text, a_blob, a_parameter}
 use Rattle.grammar.specs.inner.Reading.{or_default}
 use Rattle.row_model.specs.declared.statement.Order.{Order}
 use Rattle.row_model.specs.declared.statement.Order.TheVariants as orders
@@ -17,7 +17,7 @@ use Rattle.vec_sql.specs.declared.given.GivenTerm.{GivenTerm}
 use Rattle.vec_sql.specs.declared.given.GivenSelect.{GivenSelect}
 use Rattle.vec_sql.specs.declared.given.GivenStatement.{GivenStatement}
 use Rattle.vec_sql.specs.declared.given.GivenStatement.TheVariants as statements
-use Rattle.vec_sql.specs.StatementGrammar.{list_of, in_parentheses, word_for, mark_for, or_none, may_say, constant, vec_int8, vec_bit, value, group, term_of, comparison, member, match_of, order, items_part, limit, drop_table, insert, assignment, begin, commit, rollback, savepoint, release}
+use Rattle.vec_sql.specs.StatementGrammar.{in_parentheses, word_for, mark_for, or_none, may_say, constant, vec_int8, vec_bit, value, group, term_of, comparison, member, match_of, order, items_part, limit, drop_table, insert, assignment, begin, commit, rollback, savepoint, release}
 
 -- ---- parts of choices
 
@@ -41,36 +41,6 @@ bits_operand = alt (means (λ b. givens.Value (values.Bits b)) a_blob) (means (�
 unfoldable pub order_op : Part Op
 order_op = alt (mark_for ops.Lt (codes "<")) (alt (mark_for ops.Le (codes "<=")) (alt (mark_for ops.Gt (codes ">")) (mark_for ops.Ge (codes ">="))))
 
--- ---- lists
-
--- , p
-abbrev pub behind_comma : {A : Type 0} → Part A → Part A
-behind_comma p = a_mark (codes ",") ▸ p
-
-unfoldable pub more_names : Part (List ℕ)
-more_names = behind_comma a_name
-
-unfoldable pub more_values : Part Given
-more_values = behind_comma value
-
-unfoldable pub more_groups : Part Group
-more_groups = behind_comma group
-
-unfoldable pub more_assignments : Part GivenAssign
-more_assignments = behind_comma assignment
-
-unfoldable pub names_list : Part (List (List ℕ))
-names_list = list_of a_name
-
-unfoldable pub values_list : Part (List Given)
-values_list = list_of value
-
-unfoldable pub groups_list : Part (List Group)
-groups_list = list_of group
-
-unfoldable pub assignments_list : Part (List GivenAssign)
-assignments_list = list_of assignment
-
 -- ---- terms
 
 -- IN .. | MATCH .. | op ..
@@ -81,12 +51,9 @@ test = alt member (alt match_of comparison)
 unfoldable pub factored_term : Part GivenTerm
 factored_term = term_of test
 
--- AND term
-unfoldable pub more_terms : Part GivenTerm
-more_terms = a_word (codes "AND") ▸ factored_term
-
+-- term {AND term}
 unfoldable pub terms_list : Part (List GivenTerm)
-terms_list = means (λ x. x.0 ∷ x.1) (seq factored_term (many more_terms))
+terms_list = parts_with (keyword (codes "AND")) factored_term
 
 unfoldable pub factored_where : Part (List GivenTerm)
 factored_where = a_word (codes "WHERE") ▸ terms_list
@@ -118,7 +85,7 @@ factored_create =
 unfoldable pub factored_update : Part GivenStatement
 factored_update =
     means (λ x. statements.Update x.0 x.1.0 x.1.1)
-    (a_word (codes "UPDATE") ▸ seq a_name (a_word (codes "SET") ▸ seq assignments_list maybe_where))
+    (a_word (codes "UPDATE") ▸ seq a_name (a_word (codes "SET") ▸ seq (list_of assignment) maybe_where))
 
 unfoldable pub factored_delete : Part GivenStatement
 factored_delete =

@@ -18,13 +18,13 @@ returns-then-is_done-clause-only c given s =
     inl (ap Ok (spelled_only (numbered_tokens c.args.text.now) (rest_of c.statement.new.reader) c.in-Ok.given given
     (ap (λ (z : List Token). read factored_statement z) (sym c.with_parameters-reader.ensures) ∙ c.in-Ok.ensures.reads) (MatchBool-at_true _ _ c.if-is_done.true c.is_done.ensures) s))
 
-pub returns-else-is_done-clause-only : goal.returns-else-is_done-clause-only
-returns-else-is_done-clause-only c given s =
+pub returns-in-Ok-clause-only : goal.returns-in-Ok-clause-only
+returns-in-Ok-clause-only c given s =
     absurd ((more_left (numbered_tokens c.args.text.now) (rest_of c.statement.new.reader) c.in-Ok.given
     (ap (λ (z : List Token). read factored_statement z) (sym c.with_parameters-reader.ensures) ∙ c.in-Ok.ensures.reads) (MatchBool-at_false _ _ c.if-is_done.false c.is_done.ensures)).none given s)
 
-pub returns-else-is_done-clause-refusal : goal.returns-else-is_done-clause-refusal
-returns-else-is_done-clause-refusal c =
+pub returns-in-Ok-clause-refusal : goal.returns-in-Ok-clause-refusal
+returns-in-Ok-clause-refusal c =
     inr (
       rest_of c.statement.new.reader,
       (more_left (numbered_tokens c.args.text.now) (rest_of c.statement.new.reader) c.in-Ok.given

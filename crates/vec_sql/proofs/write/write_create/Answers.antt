@@ -1,6 +1,6 @@
 use Rattle.std.proofs.Common.{codes, ◌++◌, ◌∙◌, ap, List, ℕ, string_bytes}
 use Rattle.row_model.specs.CanonicalColumns.{canonical_columns}
-use Rattle.vec_literal.proofs.Written.{written_more}
+use Rattle.vec_sql.proofs.Written.{written_more}
 use Rattle.vec_sql.proofs.write.write_create.Goals as goal
 
 pub returns : goal.returns

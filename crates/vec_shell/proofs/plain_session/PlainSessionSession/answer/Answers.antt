@@ -1,6 +1,6 @@
 use Rattle.std.proofs.Common.{◌≡◌, false, Err, inl, inr, refl, rules}
 use Rattle.vec_base.specs.declared.refusal.Refusal.TheVariants.{Unsupported}
-use Rattle.row_model.specs.DirectRequests.{is_direct}
+use Rattle.row_model.specs.DirectStatements.{is_direct}
 use Rattle.vec_shell.proofs.plain_session.PlainSessionSession.answer.Goals as goal
 
 pub returns-else-is_direct : goal.returns-else-is_direct

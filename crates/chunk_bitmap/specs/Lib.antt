@@ -1,0 +1,2 @@
+-- Bits: bytes as lists of truth values.
+pub mod Bits

@@ -1,0 +1,5 @@
+//! Tests of the pages of tables: shared lists, counters of work, and bitmaps.
+#![tactic(auto)]
+
+#[cfg(test)]
+mod tests;

@@ -1,0 +1,10 @@
+pub mod AutoCommitLaws
+pub mod AutoCommitSelects
+pub mod ExecuteLaws
+pub mod InsertLaws
+pub mod NearLaws
+pub mod ScanLaws
+pub mod TableLaws
+pub mod TextKeyLaws
+pub mod TopLaws
+pub mod TotalLaws

@@ -1,0 +1,6 @@
+pub mod AutoCommit
+pub mod ByteTotals
+pub mod OneValidity
+pub mod OrderedTables
+pub mod RowHits
+pub mod TablePlaces
