@@ -8,6 +8,7 @@ ghost use Rattle.plain_engine.specs.inner.RowHits.{hit_to, near_at, row_with};
 ghost use Rattle.row_model.specs.Answer.{Near as NearRow, Target as TargetValue, is_before, near_to, target_of, met, vector_of, distance_by, distance_in, distance_at};
 ghost use Rattle.row_model.specs.inner.ComparableVectors.{IsComparable};
 ghost use Rattle.row_model.specs.Rows.{has_rowid, is_rising};
+ghost use Rattle.row_model.specs.Schemas.{is_vector};
 ghost use Rattle.row_model.specs.Values.{value_at};
 ghost use Rattle.row_model.specs.declared.schema.TheConstants.{MOST_COLUMNS};
 ghost use Rattle.vec_base.specs.declared.limits.TheConstants.{MOST_DIMENSIONS};
@@ -104,8 +105,9 @@ fn distance_by(metric: Metric, a: &[u8], b: &[u8]) -> u32
     }
 }
 
-/// The distance of two vectors of a column.
+/// The distance of two vectors of a vector column.
 fn distance_in(kind: Kind, a: &[u8], b: &[u8]) -> u32
+    requires column { is_vector kind ≡ true }
     requires same_length { length a.now ≡ length b.now }
     requires short { length a.now ≤ MOST_DIMENSIONS }
     ensures { result ≡ distance_in kind a.now b.now }
@@ -113,7 +115,7 @@ fn distance_in(kind: Kind, a: &[u8], b: &[u8]) -> u32
     match kind {
         Kind::Int8Vector(_, metric) => distance_by(metric, a, b),
         Kind::BitVector(_) => hamming(a, b),
-        _ => 0,
+        _ => unreachable!(),
     }
 }
 
@@ -128,7 +130,7 @@ fn distance_at(target: &Target, row: &Row) -> u32
             vector_at(target.place, row),
             vector_of(target.query),
         ),
-        _ => 0,
+        _ => unreachable!(),
     }
 }
 
