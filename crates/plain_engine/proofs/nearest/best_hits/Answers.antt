@@ -1,4 +1,4 @@
-use Rattle.std.proofs.Common.{◌∙◌, sym, ap, refl, length, take, arith, subst}
+use Rattle.std.proofs.Common.{◌∙◌, refl}
 use Rattle.topk_merge.specs.Hits.{is_before}
 use Rattle.row_model.specs.Values.{meets_all}
 use Rattle.plain_engine.specs.inner.RowHits.{hit_to}
