@@ -2,8 +2,7 @@
 -- two have the same spellings, values and beginnings.
 use Rattle.std.proofs.Common.{◌≡◌, inl, inr, List, [], ◌∷◌, ◌++◌, Option, Some, None, refl, sym, ◌∙◌, ap, subst, append-nil}
 use Rattle.vec_literal.specs.Tokens.{Token}
-use Rattle.grammar.specs.Grammar.{Part, seq, alt, opt, many, means, ◌▸◌, ◌◂◌, Spells, Begins, Repeats, FailsAt, FailsInside, SpellsFront}
-use Rattle.grammar.specs.inner.Reading.{or_default}
+use Rattle.grammar.specs.Grammar.{Part, seq, alt, opt, many, means, ◌▸◌, ◌◂◌, Spells, Begins, Repeats, FailsAt, FailsInside, SpellsFront, or_default}
 
 -- what spells or begins p does so for q
 pub record Within {A : Type 0} (p q : Part A) : Type 0 where

@@ -1,13 +1,13 @@
 -- Reading a part that the next token decides: what is read is spelled so, what is spelled so is read, and the failing
 -- token is the first that no spelling has there.
-use Rattle.std.proofs.Common.{◌≡◌, ℕ, zero, suc, ◌≤◌, Bool, true, false, not, ◌||◌, cond, ◌⊎◌, inl, inr, List, [], ◌∷◌, ◌++◌, length, Option, Some, None, Ok, Err, refl, sym, ◌∙◌, ap, subst, arith, append_assoc, length-append, bytes_eq, append-nil}
+use Rattle.std.proofs.Common.{◌≡◌, ℕ, zero, suc, ◌≤◌, Bool, true, false, not, ◌||◌, cond, ◌⊎◌, inl, inr, List, [], ◌∷◌, ◌++◌, length, drop, Option, Some, None, Ok, Err, refl, sym, ◌∙◌, ap, subst, arith, append_assoc, length-append, bytes_eq, append-nil}
 use Rattle.std.specs.List.{list_any, list_all}
 use Rattle.std.proofs.lemmas.Bool.{and_parts, and_from, or_cases, or_parts, or_left, or_right, cond-true, cond-false, both_ways, false_from_ne_true, not-true}
 use Rattle.std.proofs.lemmas.Slice.Eq.{bytes_eq-Decides}
 use Rattle.vec_literal.specs.Tokens.{Token}
 use Rattle.vec_literal.specs.declared.token.TokenSort.{TokenSort}
 use Rattle.vec_literal.specs.declared.token.TokenSort.TheVariants as sorts
-use Rattle.grammar.specs.Grammar.{same_sort, is_sort, lower, Class, keyword, sign, name, number, number_after_minus, text_literal, blob_literal, parameter, Part, one, seq, alt, opt, many, means, fits, Joined, Repeats, Spells, Begins, lowered, FailsAt}
+use Rattle.grammar.specs.Grammar.{same_sort, is_sort, lower, Class, keyword, sign, name, number, number_after_minus, text_literal, blob_literal, parameter, Part, one, seq, alt, opt, many, means, fits, Joined, Repeats, Spells, Begins, lowered, FailsAt, FailsInside}
 use Rattle.vec_base.specs.Words.{is_reserved}
 use Rattle.grammar.specs.inner.Reading.{Outcome, ◌>>=◌, next_in, nullable, firsts, nexts, starts, sort_for, read_one, read_opt, read_many, read, overlap, apart, decides, ended}
 
@@ -687,3 +687,17 @@ ended_err {A} p d ts rest h =
 -- no tokens spell two values
 pub one_value : {A : Type 0} (p : Part A) → decides p ≡ true → (ts : List Token) (v w : A) → Spells p ts v → Spells p ts w → v ≡ w
 one_value p d ts v w s t = let e = sym (ok_ended p d ts v s) ∙ ok_ended p d ts w t in cc
+
+-- a text fails at one token
+
+same_rest : (front other a b : List Token) → front ++ a ≡ other ++ b → length front ≤ length other → length other ≤ length front → a ≡ b
+same_rest [] [] a b e l m = e
+same_rest [] (t ∷ other) a b e l m = absurd (omega (arith, m))
+same_rest (t ∷ front) [] a b e l m = absurd (omega (arith, l))
+same_rest (t ∷ front) (u ∷ other) a b e l m = same_rest front other a b (ap (λ (z : List Token). drop 1 z) e) (omega (arith, l)) (omega (arith, m))
+
+pub fails_once : {A : Type 0} (p : Part A) (ts a b : List Token) → FailsAt p ts a → FailsAt p ts b → a ≡ b
+fails_once p ts a b f g = same_rest f.front g.front a b (sym f.whole ∙ g.whole) (g.longest f.front a f.whole f.begins) (f.longest g.front b g.whole g.begins)
+
+pub fails_once_inside : {A : Type 0} (p : Part A) (ts a b : List Token) → FailsInside p ts a → FailsInside p ts b → a ≡ b
+fails_once_inside p ts a b f g = same_rest f.front g.front a b (sym f.whole ∙ g.whole) (g.longest f.front a f.whole f.begins) (f.longest g.front b g.whole g.begins)

@@ -3,6 +3,7 @@ use Rattle.std.specs.Prelude.{◌≡◌, ℕ, ℤ, pos, ◌-ℤ◌, codes, ◌-�
 use Rattle.std.specs.Char.{to_ascii_lowercase}
 use Rattle.std.specs.Str.Parse.{digits_value}
 use Rattle.vec_base.specs.Words.{is_reserved}
+use Rattle.vec_base.specs.declared.limits.TheConstants.{MOST_NAME_BYTES, MOST_PARAMETERS}
 use Rattle.vec_literal.specs.Tokens.{Token}
 use Rattle.vec_literal.specs.LiteralValues.{text_value, blob_value}
 use Rattle.vec_literal.specs.declared.token.TokenSort.{TokenSort}
@@ -62,12 +63,12 @@ lower t = lowered t.spelling
 unfoldable pub fits : Class → Token → Bool
 fits (keyword w) t = is_sort sorts.Word t.sort && bytes_eq (lower t) (lowered w)
 fits (sign m) t = is_sort sorts.Mark t.sort && bytes_eq t.spelling m
-fits name t = is_sort sorts.Word t.sort && nat_le (length t.spelling) 64 && not (is_reserved (lower t))
+fits name t = is_sort sorts.Word t.sort && nat_le (length t.spelling) MOST_NAME_BYTES && not (is_reserved (lower t))
 fits number t = is_sort sorts.Number t.sort && nat_le (number_of t) (2 ^ 63 - 1)
 fits number_after_minus t = is_sort sorts.Number t.sort && nat_le (number_of t) (2 ^ 63)
 fits text_literal t = is_sort sorts.TextLit t.sort
 fits blob_literal t = is_sort sorts.BlobLit t.sort
-fits parameter t = is_sort sorts.Param t.sort && nat_le 1 (parameter_number t) && nat_le (parameter_number t) 999
+fits parameter t = is_sort sorts.Param t.sort && nat_le 1 (parameter_number t) && nat_le (parameter_number t) MOST_PARAMETERS
 
 -- The forms of a grammar's lines. A spelling of a Part A stands for a value of A.
 pub data Part : Type 0 → Type 1 where
@@ -104,6 +105,11 @@ a_word w = a_token (keyword w)
 
 abbrev pub a_mark : List ℕ → Part (Unit {0})
 a_mark m = a_token (sign m)
+
+-- the value that is given, or the default
+abbrev pub or_default : {A : Type 0} → A → Option A → A
+or_default d None = d
+or_default d (Some x) = x
 
 -- p {c p}
 abbrev pub parts_with : {A : Type 0} → Class → Part A → Part (List A)

@@ -1,6 +1,7 @@
 -- Parameters by their numbers.
 use Rattle.std.specs.Prelude.{ℕ, suc, Bool, ◌&&◌, if◌then◌else◌, List, [], ◌∷◌, ◌++◌, Option, Some, None, codes, bytes_eq, nat_le, max}
 use Rattle.std.specs.Fmt.{decimal}
+use Rattle.vec_base.specs.declared.limits.TheConstants.{MOST_PARAMETERS}
 use Rattle.vec_literal.specs.Tokens.{Token, tokens}
 use Rattle.vec_literal.specs.declared.token.TokenSort.TheVariants as sorts
 use Rattle.grammar.specs.Grammar.{is_sort, parameter_number}
@@ -9,9 +10,10 @@ use Rattle.grammar.specs.Grammar.{is_sort, parameter_number}
 abbrev pub is_plain : Token → Bool
 is_plain t = is_sort sorts.Param t.sort && bytes_eq t.spelling (codes "?")
 
--- The token, where a plain `?` gets the number. None above 999 fits a place, and there the `?` stays, which fits none either.
+-- The token, where a plain `?` gets the number. None above the greatest one fits a place, and there the `?` stays, which fits
+-- none either.
 abbrev pub with_number : ℕ → Token → Token
-with_number number t = record t { spelling = if is_plain t && nat_le number 999 then codes "?" ++ decimal number else t.spelling }
+with_number number t = record t { spelling = if is_plain t && nat_le number MOST_PARAMETERS then codes "?" ++ decimal number else t.spelling }
 
 -- the greatest number so far once the token is passed, where a plain `?` has the number one above the greatest before it
 abbrev pub greatest_after : ℕ → Token → ℕ

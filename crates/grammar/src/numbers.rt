@@ -1,17 +1,17 @@
+//! Numbers that digits write.
 ghost use Rattle.std.specs.Prelude.{◌≡◌, ◌<◌, ◌≤◌, ◌^◌, max, IsTrue, MatchOption, ℤ, pos, ◌-ℤ◌};
 ghost use Rattle.std.specs.Option.{option_map};
 ghost use Rattle.std.specs.Str.Parse.{digits_value};
 ghost use Rattle.vec_literal.specs.Tokens.{is_number_text};
 ghost use Rattle.grammar.specs.inner.ReaderResults.{WritesParameter};
 
+use vec_base::MOST_PARAMETERS;
+
 /// The greatest number.
 pub(crate) const GREATEST_NUMBER: u64 = i64::MAX as u64;
 
 /// The greatest number behind `-`.
 pub(crate) const GREATEST_AFTER_MINUS: u64 = 9_223_372_036_854_775_808;
-
-/// The greatest number of a parameter.
-const GREATEST_PARAMETER: u64 = 999;
 
 /// The number that the digits write, if it is at most `greatest`.
 pub(crate) fn decimal_value(digits: &[u8], greatest: u64) -> Option<u64>
@@ -27,12 +27,12 @@ pub(crate) fn decimal_value(digits: &[u8], greatest: u64) -> Option<u64>
     }
 }
 
-/// The number that the digits write, if it is from 1 to 999.
+/// The number of a parameter that the digits write, if they write one that a parameter may have.
 pub(crate) fn parameter_number(digits: &[u8]) -> Option<u16>
     requires { IsTrue (is_number_text digits.now) }
     ensures { WritesParameter result digits.now }
 {
-    match decimal_value(digits, GREATEST_PARAMETER) {
+    match decimal_value(digits, u64::from(MOST_PARAMETERS)) {
         Some(number) if number > 0 => Some(number as u16),
         _ => None,
     }

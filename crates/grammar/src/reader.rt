@@ -1,3 +1,4 @@
+//! A reader of tokens with one of them at hand.
 ghost use Rattle.std.specs.Prelude.{◌≡◌, true, false, ◌≤◌, length};
 ghost use Rattle.vec_literal.specs.Tokens.{is_right};
 ghost use Rattle.grammar.specs.Grammar.{lowered};
@@ -9,7 +10,7 @@ use crate::numbers::{
 use crate::quoted::Quoted;
 use crate::words::{is_reserved, unsupported_number};
 use std::alloc::Global;
-use vec_base::{Bytes, Memory, Refusal, Txt};
+use vec_base::{Bytes, MOST_NAME_BYTES, MOST_PARAMETERS, Memory, Refusal, Txt};
 use vec_literal::{Lexed, TokenSort, between_quotes, next_token, read_blob, read_text};
 
 /// Why a part is not read: memory was wanted, or the token at hand does not fit.
@@ -45,7 +46,8 @@ impl<'a> Reader<'a> {
     ghost use Rattle.vec_literal.specs.Tokens.{tokens};
     ghost use Rattle.vec_literal.specs.LiteralValues.{blob_value};
     ghost use Rattle.vec_literal.specs.declared.token.TokenSort.TheVariants.{Word as word_sort, Param as param_sort};
-    ghost use Rattle.grammar.specs.inner.ReaderResults.{rest_of, spelled_rest, Gives, first_of, AtNumber, AtParameter, next_number, is_told, is_param_told, place_of, refusal_of};
+    ghost use Rattle.grammar.specs.inner.ReaderResults.{rest_of, spelled_rest, Gives, first_of, AtNumber, AtParameter, next_number, is_told, is_param_told, place_of};
+    ghost use Rattle.grammar.specs.FailingToken.{refusal_of};
     ghost use Rattle.grammar.specs.Grammar.{keyword, name as name_class, number as number_class, text_literal as text_class, blob_literal as blob_class, parameter as parameter_class, sign, means, a_word, a_mark, a_placed_mark, a_name, a_number, a_number_after_minus, a_signed_number, a_text, a_placed_text, a_blob, a_parameter, lower, text_of, is_sort};
     ghost use Rattle.grammar.specs.Parameters.{numbered_tokens};
     ghost use Rattle.vec_base.specs.Words.{is_name};
@@ -203,7 +205,7 @@ impl<'a> Reader<'a> {
             return false;
         }
         let bytes = self.bytes();
-        bytes.len() <= 64 && !is_reserved(bytes)
+        bytes.len() <= MOST_NAME_BYTES && !is_reserved(bytes)
     }
 
     /// The word at hand as text.
@@ -408,17 +410,17 @@ impl<'a> Reader<'a> {
         &self.spelling()[1..]
     }
 
-    /// The number that a plain `?` gets, if one of at most 999 is left.
+    /// The number that a plain `?` gets, if one is left.
     fn next_number(&self) -> Option<u16>
         ensures { result ≡ next_number self.now.greatest }
     {
         match self.greatest {
-            Some(greatest) if greatest < 999 => Some(greatest + 1),
+            Some(greatest) if greatest < MOST_PARAMETERS => Some(greatest + 1),
             _ => None,
         }
     }
 
-    /// The number of the parameter at hand, if one with a number from 1 to 999 is at hand.
+    /// The number of the parameter at hand, if one with a number that fits is at hand.
     fn parameter_at(&self) -> Option<u16>
         ensures { AtParameter result (rest_of self.now) }
     {
@@ -433,7 +435,7 @@ impl<'a> Reader<'a> {
         }
     }
 
-    /// Whether a parameter with a number from 1 to 999 is at hand.
+    /// Whether a parameter with a number from 1 to `MOST_PARAMETERS` is at hand.
     #[tactic(auto, using(crate::proofs::Numbering::parameter_tested))]
     pub fn at_parameter(&self) -> bool
         ensures { result ≡ next_in (parameter_class ∷ []) (rest_of self.now) }
@@ -441,11 +443,11 @@ impl<'a> Reader<'a> {
         self.parameter_at().is_some()
     }
 
-    /// Reads a parameter: its number, from 1 to 999.
+    /// Reads a parameter: its number, from 1 to `MOST_PARAMETERS`.
     #[tactic(auto, using(crate::proofs::Places::means_fits, crate::proofs::Places::means_fails, crate::proofs::Numbering::parameter_small))]
     pub fn parameter(&mut self) -> Result<u16, Stop>
         ensures reads { Gives (λ n. n) result (read a_parameter (rest_of self.old)) (rest_of self.new) }
-        ensures small { IfOk result (λ n. n ≤ 999) }
+        ensures small { IfOk result (λ n. n ≤ MOST_PARAMETERS) }
     {
         match self.parameter_at() {
             Some(number) => {

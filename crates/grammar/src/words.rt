@@ -1,88 +1,11 @@
+//! Words that are no names, and words of forms that are not supported.
 ghost use Rattle.std.specs.Prelude.{◌≡◌, ◌<◌, length};
 ghost use Rattle.std.specs.List.{list_any, position_from};
 ghost use Rattle.grammar.specs.Grammar.{lowered};
 ghost use Rattle.vec_base.specs.Words.{is_reserved, unsupported_number};
 ghost use Rattle.grammar.specs.inner.ReaderResults.{is_in_any_case};
 
-/// The words of forms that are not supported, in the order of their numbers.
-const UNSUPPORTED: [&str; 34] = [
-    "or",
-    "not",
-    "is",
-    "between",
-    "like",
-    "glob",
-    "regexp",
-    "join",
-    "as",
-    "group",
-    "having",
-    "offset",
-    "union",
-    "distinct",
-    "collate",
-    "case",
-    "cast",
-    "returning",
-    "on",
-    "if",
-    "replace",
-    "desc",
-    "float",
-    "double",
-    "real",
-    "f32",
-    "cosine",
-    "exclusive",
-    "alter",
-    "pragma",
-    "with",
-    "attach",
-    "vacuum",
-    "default",
-];
-
-/// The words that are no names.
-const RESERVED: [&str; 38] = [
-    "and",
-    "chunk_size",
-    "false",
-    "from",
-    "in",
-    "into",
-    "limit",
-    "match",
-    "null",
-    "order",
-    "savepoint",
-    "select",
-    "set",
-    "to",
-    "transaction",
-    "true",
-    "values",
-    "where",
-    "or",
-    "not",
-    "is",
-    "between",
-    "like",
-    "glob",
-    "regexp",
-    "join",
-    "as",
-    "group",
-    "having",
-    "offset",
-    "union",
-    "distinct",
-    "collate",
-    "case",
-    "cast",
-    "returning",
-    "on",
-    "if",
-];
+use vec_base::{RESERVED_UNSUPPORTED, STATEMENT_WORDS, UNSUPPORTED_WORDS};
 
 /// Whether the two are one word, but for capitals.
 fn is_in_any_case(word: &[u8], known: &str) -> bool
@@ -122,14 +45,12 @@ fn number_in(words: &[&str], word: &[u8]) -> Option<u8>
 pub(crate) fn unsupported_number(word: &[u8]) -> Option<u8>
     ensures { result ≡ unsupported_number (lowered word.now) }
 {
-    let words: [&str; 34] = UNSUPPORTED;
-    number_in(words.as_slice(), word)
+    number_in(&UNSUPPORTED_WORDS, word)
 }
 
 /// Whether the word, in any case, is none that a name may be.
 pub(crate) fn is_reserved(word: &[u8]) -> bool
     ensures { result ≡ is_reserved (lowered word.now) }
 {
-    let words: [&str; 38] = RESERVED;
-    is_in(words.as_slice(), word)
+    is_in(&STATEMENT_WORDS, word) || is_in(&UNSUPPORTED_WORDS[..RESERVED_UNSUPPORTED], word)
 }

@@ -1,8 +1,7 @@
 -- The grammar's lines of the column text and their factored forms are the same.
 use Rattle.std.proofs.Common.{List, ◌∷◌}
 use Rattle.std.specs.Prelude.{codes}
-use Rattle.grammar.specs.Grammar.{Part, one, seq, alt, opt, many, means, sign, ◌▸◌, a_mark, a_name}
-use Rattle.grammar.specs.inner.Reading.{or_default}
+use Rattle.grammar.specs.Grammar.{Part, one, seq, alt, opt, many, means, sign, ◌▸◌, a_mark, a_name, or_default}
 use Rattle.grammar.proofs.Factoring.{Within, Same, within_refl, within_trans, within_left, within_right, within_later, within_either, within_means, within_seq, within_behind, within_many, spread, without_option, with_option, option_parts}
 use Rattle.row_model.specs.declared.schema.Kind.{Kind}
 use Rattle.row_model.specs.declared.schema.Kind.TheVariants as kinds

@@ -15,7 +15,7 @@ use Rattle.row_model.specs.declared.schema.Schema.{Schema}
 use Rattle.row_model.specs.CanonicalColumns.{metric_text, declared_text, column_text, canonical_columns}
 use Rattle.vec_base.specs.Words.{is_small_word, is_name, is_reserved}
 use Rattle.row_model.specs.Schemas.{is_key, is_vector, is_partition, is_metadata, is_auxiliary, count_of, has_some, is_misfit_int8, is_misfit_bits, schema_fault, IsValidSchema}
-use Rattle.vec0_columns.specs.ColumnGrammar.{text_limit}
+use Rattle.vec_base.specs.declared.limits.TheConstants.{MOST_TEXT_BYTES}
 use Rattle.vec0_columns.proofs.Written.{head_kept, others_kept, tests_of, has_sizes, neither, width_int8, width_bits, chunk_few}
 
 -- ---- how many columns there are
@@ -108,5 +108,5 @@ canonical_length schema valid =
     omega (arith, columns, few_columns schema valid.rules, three_lengths (written schema.columns) (codes "chunk_size=") (decimal schema.chunk_size), short_decimal schema.chunk_size (omega (arith, chunk_few schema.chunk_size sizes.chunk)))
 
 -- so it is within the greatest length of a text
-pub canonical_short : (schema : Schema) → IsValidSchema schema → length (canonical_columns schema) ≤ text_limit
+pub canonical_short : (schema : Schema) → IsValidSchema schema → length (canonical_columns schema) ≤ MOST_TEXT_BYTES
 canonical_short schema valid = omega (arith, canonical_length schema valid)

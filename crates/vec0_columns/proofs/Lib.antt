@@ -3,6 +3,6 @@ pub mod ColumnChoices
 pub mod ColumnLines
 pub mod Lengths
 pub mod Narrowing
-pub mod OneSchema
+pub mod OneAnswer
 pub mod RoundTrip
 pub mod Written

@@ -16,7 +16,9 @@ use Rattle.vec0_columns.specs.declared.text.Spelled.{Spelled}
 use Rattle.vec0_columns.specs.declared.text.Spelled.TheVariants.{Int8, Bits, Plain}
 use Rattle.vec0_columns.specs.declared.text.Arg.{Arg}
 use Rattle.vec0_columns.specs.declared.text.Arg.TheVariants as args
-use Rattle.vec0_columns.specs.ColumnGrammar.{has_name, kind_of, columns_of, sizes_of, first_or, schema_of, is_bits_with_metric, is_size, rule_where, least, text_fault, answer_by, answer_of, IsAnswer}
+use Rattle.vec0_columns.specs.ColumnGrammar.{has_name, kind_of, columns_of, sizes_of, first_or, schema_of, is_bits_with_metric, is_size, rule_where, least, text_fault}
+use Rattle.vec0_columns.specs.ColumnReading.{answer_by, answer_of}
+use Rattle.vec_base.specs.Answers.{Gives}
 use Rattle.vec0_columns.specs.inner.NarrowedNumbers.{narrow, narrow_spelled, narrow_arg}
 
 narrow_small : (n : ℕ) → n ≤ 65535 → narrow n ≡ n
@@ -221,11 +223,11 @@ pub rule_told : (parts : List Arg) (cs : List Column) (size : ℕ) (r : Option �
 rule_told parts cs size r e f h = h ∙ ap (λ (z : Option ℕ). least z (beside parts)) (ap (λ (z : Schema). schema_fault z) (made_narrow parts cs size e f) ∙ narrow_fault parts)
 
 pub answered_rule : (parts : List Arg) (cs : List Column) (size rule : ℕ) (r : Option ℕ) → cs ≡ columns_of (map narrow_arg parts) → size ≡ first_or 1024 (sizes_of (map narrow_arg parts)) →
-    r ≡ least (schema_fault (made cs size)) (beside parts) → r ≡ Some rule → IsAnswer (Err (refusals.BadSchema rule)) (answer_of parts)
+    r ≡ least (schema_fault (made cs size)) (beside parts) → r ≡ Some rule → Gives {A = Schema} refusals.WantOfMemory (Err (refusals.BadSchema rule)) (answer_of parts)
 answered_rule parts cs size rule r e f h k = inl (sym (ap (λ (z : Option ℕ). answer_by z (schema_of parts)) (sym (rule_told parts cs size r e f h) ∙ k)))
 
 pub answered_schema : (parts : List Arg) (cs : List Column) (size : ℕ) (r : Option ℕ) → cs ≡ columns_of (map narrow_arg parts) → size ≡ first_or 1024 (sizes_of (map narrow_arg parts)) →
-    r ≡ least (schema_fault (made cs size)) (beside parts) → r ≡ None → IsAnswer (Ok (made cs size)) (answer_of parts)
+    r ≡ least (schema_fault (made cs size)) (beside parts) → r ≡ None → Gives refusals.WantOfMemory (Ok (made cs size)) (answer_of parts)
 answered_schema parts cs size r e f h k =
     let none : text_fault parts ≡ None = sym (rule_told parts cs size r e f h) ∙ k in
     let same : made cs size ≡ schema_of parts = made_narrow parts cs size e f ∙ narrow_same parts (least_none (schema_fault (schema_of parts)) (beside parts) none) in

@@ -24,7 +24,8 @@ use Rattle.vec0_columns.specs.declared.text.Spelled.TheVariants.{Int8, Bits, Pla
 use Rattle.vec0_columns.specs.declared.text.Arg.{Arg}
 use Rattle.vec0_columns.specs.declared.text.Arg.TheVariants as args
 use Rattle.vec0_columns.specs.inner.CanonicalLexemes.{size_lexemes, declared_lexemes, column_lexemes, canonical_lexemes}
-use Rattle.vec0_columns.specs.ColumnGrammar.{Declares, integer_word, boolean_word, text_word, blob_word, stands_for, primary_key, partition_key, metric, vector, int8, bits, column, auxiliary, chunk_size, arg, columns, columns_of, sizes_of, schema_of, is_bits_with_metric, is_size, text_fault, least, rule_where, kind_of, first_or}
+use Rattle.vec0_columns.specs.ColumnReading.{Declares}
+use Rattle.vec0_columns.specs.ColumnGrammar.{integer_word, boolean_word, text_word, blob_word, stands_for, primary_key, partition_key, metric, vector, int8, bits, column, auxiliary, chunk_size, arg, columns, columns_of, sizes_of, schema_of, is_bits_with_metric, is_size, text_fault, least, rule_where, kind_of, first_or}
 use Rattle.vec0_columns.specs.inner.CanonicalParts.{spelled_kind, column_part, parts_of}
 use Rattle.vec0_columns.proofs.Lengths.{canonical_short}
 use Rattle.vec0_columns.proofs.Written.{has_sizes, neither, width_int8, width_bits, chunk_few, size_last, lexemes_of_canonical}

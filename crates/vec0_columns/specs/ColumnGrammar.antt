@@ -1,11 +1,8 @@
--- The text between vec0's parentheses: its grammar, the schema that it declares, and its refusals.
-use Rattle.std.specs.Prelude.{◌≡◌, ℕ, ◌<◌, ◌≤◌, ◌⊎◌, Bool, true, false, if◌then◌else◌, List, [], ◌∷◌, Option, Some, None, Result, Ok, Err, codes, length, nat_lt, nat_le}
+-- The text between vec0's parentheses: its grammar, the schema that its parts declare, and the rules that they break.
+use Rattle.std.specs.Prelude.{ℕ, Bool, true, false, if◌then◌else◌, List, [], ◌∷◌, Option, Some, None, codes, nat_lt, nat_le}
 use Rattle.std.specs.List.{list_any, count_by}
-use Rattle.vec_base.specs.declared.refusal.Refusal.{Refusal}
-use Rattle.vec_base.specs.declared.refusal.Refusal.TheVariants as refusals
-use Rattle.vec_literal.specs.Tokens.{Token, tokens}
-use Rattle.grammar.specs.inner.ReaderResults.{refusal_of}
-use Rattle.grammar.specs.Grammar.{Part, one, seq, alt, opt, means, sign, ◌▸◌, ◌◂◌, a_word, a_mark, a_name, a_number, list_of, Spells, SpellsFront, FailsAt, FailsInside}
+use Rattle.vec_literal.specs.Tokens.{Token}
+use Rattle.grammar.specs.Grammar.{Part, one, seq, alt, opt, means, sign, ◌▸◌, ◌◂◌, a_word, a_mark, a_name, a_number, list_of}
 use Rattle.vec_base.specs.Words.{is_name}
 use Rattle.row_model.specs.declared.schema.Column.{Column}
 use Rattle.row_model.specs.declared.schema.Kind.{Kind}
@@ -160,75 +157,3 @@ abbrev pub text_fault : List Arg → Option ℕ
 text_fault parts =
     least (schema_fault (schema_of parts))
     (least (rule_where (list_any is_bits_with_metric parts) 11) (rule_where (nat_lt 1 (count_by is_size parts)) 12))
-
--- ---- what is answered
-
-abbrev pub answer_by : Option ℕ → Schema → Result Schema Refusal
-answer_by None schema = Ok schema
-answer_by (Some rule) schema = Err (refusals.BadSchema rule)
-
--- the schema that the parts declare, or the refusal for the rule that they break
-abbrev pub answer_of : List Arg → Result Schema Refusal
-answer_of parts = answer_by (text_fault parts) (schema_of parts)
-
--- the answer, or want of memory
-abbrev pub IsAnswer : {A : Type 0} → Result A Refusal → Result A Refusal → Type 0
-IsAnswer result answer = (result ≡ answer) ⊎ (result ≡ Err refusals.WantOfMemory)
-
--- the greatest number of bytes of a text
-abbrev pub text_limit : ℕ
-text_limit = 4194304
-
--- the text may be read, spells the parts and breaks no rule, and the schema is the one that they declare
-pub record Declares (text : List ℕ) (schema : Schema) : Type 0 where
-  pub within : length text ≤ text_limit
-  pub parts : List Arg
-  pub spelled : Spells columns (tokens text 0) parts
-  pub rules : text_fault parts ≡ None
-  pub declared : schema ≡ schema_of parts
-
--- the same of what stands in the text from a place on, up to the parenthesis that closes it, which is at the place upto
-pub record DeclaresAt (text : List ℕ) (from : ℕ) (schema : Schema) (upto : ℕ) : Type 0 where
-  pub within : length text ≤ text_limit
-  pub parts : List Arg
-  pub closing : Token
-  pub rest : List Token
-  pub spelled : SpellsFront enclosed (tokens text from) (parts, closing) rest
-  pub rules : text_fault parts ≡ None
-  pub declared : schema ≡ schema_of parts
-  pub place : upto ≡ closing.place
-
--- The refusal is want of memory; the one of a text that is too long; one for the failing token, which is said by Fails; or
--- one for the least rule that is broken, which is said by Breaks.
-abbrev pub IsRefusalOf : List ℕ → (Refusal → Type 0) → (ℕ → Type 0) → Refusal → Type 0
-IsRefusalOf text Fails Breaks refusals.WantOfMemory = Unit {0}
-IsRefusalOf text Fails Breaks (refusals.Syntax place) = ((text_limit < length text) × (place ≡ text_limit)) ⊎ ((length text ≤ text_limit) × Fails (refusals.Syntax place))
-IsRefusalOf text Fails Breaks (refusals.Unsupported word) = (length text ≤ text_limit) × Fails (refusals.Unsupported word)
-IsRefusalOf text Fails Breaks (refusals.BadSchema rule) = (length text ≤ text_limit) × Breaks rule
-IsRefusalOf text Fails Breaks other = ⊥
-
--- the text is no column text, and the refusal is the one for its failing token
-abbrev pub FailsBy : List ℕ → Refusal → Type 0
-FailsBy text e = (rest : List Token) × FailsAt columns (tokens text 0) rest × (e ≡ refusal_of (length text) rest)
-
--- the text spells parts of which the rule is the least that they break
-abbrev pub Breaks : List ℕ → ℕ → Type 0
-Breaks text rule = (parts : List Arg) × Spells columns (tokens text 0) parts × (text_fault parts ≡ Some rule)
-
-abbrev pub IsRefusal : List ℕ → Refusal → Type 0
-IsRefusal text e = IsRefusalOf text (FailsBy text) (Breaks text) e
-
--- no column text with a parenthesis behind it stands there, and the refusal is the one for the failing token
-abbrev pub FailsByAt : List ℕ → ℕ → Refusal → Type 0
-FailsByAt text from e = (rest : List Token) × FailsInside enclosed (tokens text from) rest × (e ≡ refusal_of (length text) rest)
-
-abbrev pub BreaksAt : List ℕ → ℕ → ℕ → Type 0
-BreaksAt text from rule = (x : List Arg × Token) × (rest : List Token) × SpellsFront enclosed (tokens text from) x rest × (text_fault x.0 ≡ Some rule)
-
-abbrev pub IsRefusalAt : List ℕ → ℕ → Refusal → Type 0
-IsRefusalAt text from e = IsRefusalOf text (FailsByAt text from) (BreaksAt text from) e
-
--- the schema with the place at which its text is closed
-abbrev pub placed : ℕ → Result Schema Refusal → Result (Schema × ℕ) Refusal
-placed place (Ok schema) = Ok (schema, place)
-placed place (Err e) = Err e

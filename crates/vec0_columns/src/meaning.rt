@@ -1,9 +1,11 @@
+//! The schema that the parts of a column text declare.
 ghost use Rattle.std.specs.Prelude.{◌≡◌, true, ℕ, List, map, length, nat_lt, IfOk};
 ghost use Rattle.std.specs.List.{list_all, list_any, count_by};
 ghost use Rattle.row_model.specs.Schemas.{IsValidSchema, schema_fault};
+ghost use Rattle.vec_base.specs.Answers.{Gives};
+ghost use Rattle.vec_base.specs.declared.refusal.Refusal.TheVariants.{WantOfMemory};
+ghost use Rattle.vec0_columns.specs.ColumnReading.{answer_of};
 ghost use Rattle.vec0_columns.specs.ColumnGrammar.{
-  IsAnswer,
-  answer_of,
   columns_of,
   first_or,
   has_name,
@@ -25,7 +27,7 @@ use vec_base::{List, Memory, Refusal};
 /// The schema that the parts declare, or the refusal for the least rule that they break.
 pub fn schema_of(alloc: Global, args: &[Arg]) -> Result<Schema, Refusal>
     requires { list_all has_name args.now ≡ true }
-    ensures answer { IsAnswer result (answer_of args.now) }
+    ensures answer { Gives WantOfMemory result (answer_of args.now) }
     ensures valid { IfOk result (λ s. IsValidSchema s) }
 {
     let Ok(columns) = columns_of(alloc, args) else {

@@ -1,42 +1,28 @@
-ghost use Rattle.std.specs.Prelude.{◌≡◌, ◌≤◌, List, length, IfOk, IfErr};
-ghost use Rattle.vec_literal.specs.Tokens.{Token, tokens};
-ghost use Rattle.grammar.specs.Grammar.{Spells, SpellsFront};
+//! Reading the text of columns.
+ghost use Rattle.std.specs.Prelude.{◌≡◌, ◌≤◌, length, IfOk};
+ghost use Rattle.vec_base.specs.Answers.{IsExactAnswer};
+ghost use Rattle.vec_base.specs.declared.refusal.Refusal.TheVariants.{WantOfMemory};
 ghost use Rattle.row_model.specs.Schemas.{IsValidSchema};
-ghost use Rattle.vec0_columns.specs.declared.text.Arg.{Arg as Parts};
-ghost use Rattle.vec0_columns.specs.ColumnGrammar.{
-  Declares,
-  DeclaresAt,
-  IsAnswer,
-  IsRefusal,
-  IsRefusalAt,
-  answer_of,
-  columns,
-  enclosed,
-  placed,
-  text_limit,
-};
+ghost use Rattle.vec0_columns.specs.ColumnReading.{Declares, DeclaresAt, IsRefusal, IsRefusalAt, placed};
 
 use crate::meaning::schema_of;
 use crate::text::columns;
 use grammar::{Reader, Stop};
 use row_model::Schema;
 use std::alloc::Global;
-use vec_base::Refusal;
+use vec_base::{MOST_TEXT_BYTES, Refusal};
 
 /// The schema that the text between vec0's parentheses declares. Names are in lower case; the metric of a vector of bytes
 /// is `L2` and the chunk size 1024 where none is given.
 ///
-/// Errors: `Syntax` with the place of the failing token, or with 4,194,304 where the text has more bytes than that;
+/// Errors: `Syntax` with the place of the failing token, or with `MOST_TEXT_BYTES` where the text has more bytes than that;
 /// `Unsupported` where the failing token is such a word; `BadSchema` with the least rule that is broken; `WantOfMemory`.
 pub fn read_columns(alloc: Global, text: &[u8]) -> Result<Schema, Refusal>
-    // A text that spells parts is answered by the schema that they declare, or by the least rule that they break.
-    ensures spelled { (parts : List Parts) → length text.now ≤ text_limit → Spells columns (tokens text.now 0) parts → IsAnswer result (answer_of parts) }
-    ensures schema { IfOk result (λ s. Declares text.now s) }
-    ensures valid { IfOk result (λ s. IsValidSchema s) }
-    ensures refusal { IfErr result (λ e. IsRefusal text.now e) }
+    ensures exact { IsExactAnswer WantOfMemory (λ schema. Declares text.now schema) (λ refusal. IsRefusal text.now refusal) result }
+    ensures valid { IfOk result (λ schema. IsValidSchema schema) }
 {
-    if text.len() > 4_194_304 {
-        return Err(Refusal::Syntax(4_194_304));
+    if text.len() > MOST_TEXT_BYTES {
+        return Err(Refusal::Syntax(MOST_TEXT_BYTES as u64));
     }
     let mut reader = Reader::new(alloc, text, 0);
     match columns(alloc, &mut reader) {
@@ -58,14 +44,12 @@ pub fn read_columns(alloc: Global, text: &[u8]) -> Result<Schema, Refusal>
 /// Errors: as those of `read_columns`. Places count from the beginning of the text.
 pub fn read_columns_at(alloc: Global, text: &[u8], from: usize) -> Result<(Schema, usize), Refusal>
     requires { from ≤ length text.now }
-    ensures spelled { (parts : List Parts) → (closing : Token) → (rest : List Token) → length text.now ≤ text_limit → SpellsFront enclosed (tokens text.now from) (parts, closing) rest → IsAnswer result (placed closing.place (answer_of parts)) }
-    ensures schema { IfOk result (λ x. DeclaresAt text.now from x.0 x.1) }
+    ensures exact { IsExactAnswer WantOfMemory (λ x. DeclaresAt text.now from x.0 x.1) (λ refusal. IsRefusalAt text.now from refusal) result }
     ensures valid { IfOk result (λ x. IsValidSchema x.0) }
-    ensures refusal { IfErr result (λ e. IsRefusalAt text.now from e) }
 {
     let end = text.len();
-    if end > 4_194_304 {
-        return Err(Refusal::Syntax(4_194_304));
+    if end > MOST_TEXT_BYTES {
+        return Err(Refusal::Syntax(MOST_TEXT_BYTES as u64));
     }
     let mut reader = Reader::new(alloc, text, from);
     match columns(alloc, &mut reader) {

@@ -1,13 +1,14 @@
-ghost use Rattle.std.specs.Prelude.{◌≡◌, ◌++◌, codes, string_bytes, IfOk, OnOk};
-ghost use Rattle.std.specs.Fmt.{decimal};
+//! Writing the canonical text of columns.
+ghost use Rattle.std.specs.Prelude.{◌≡◌, ◌++◌, codes, IfOk, OnOk, OnErr};
 ghost use Rattle.std.specs.List.{flat_map};
 ghost use Rattle.row_model.specs.CanonicalColumns.{metric_text, declared_text, column_text, canonical_columns};
 ghost use Rattle.row_model.specs.Schemas.{IsValidSchema};
-ghost use Rattle.vec0_columns.specs.ColumnGrammar.{Declares};
+ghost use Rattle.vec0_columns.specs.ColumnReading.{Declares};
 
 use row_model::{Column, Kind, Metric, Schema};
 use std::alloc::{AllocError, Global};
 use vec_base::{Memory, Txt};
+use vec_text::{Takes, put_number};
 
 /// The canonical text of the schema: each column as it is declared, and the chunk size behind them. Where the schema is
 /// valid, reading the text gives it back.
@@ -15,91 +16,98 @@ pub fn write_columns(alloc: Global, schema: &Schema) -> Result<Txt, Memory>
     ensures text { IfOk result (λ text. text ≡ canonical_columns schema.now) }
     ensures reads_back { IsValidSchema schema.now → IfOk result (λ text. Declares text schema.now) }
 {
-    Ok(Txt::from_string(canonical(alloc, schema)?))
+    let mut text = String::new(alloc);
+    put_columns(&mut text, schema)?;
+    Ok(Txt::from_string(text))
 }
 
-/// The canonical text of the schema.
-fn canonical(alloc: Global, schema: &Schema) -> Result<String, AllocError>
-    ensures { IfOk result (λ text. string_bytes text ≡ canonical_columns schema.now) }
+/// Writes the canonical text of the schema.
+pub fn put_columns<W: Takes>(to: &mut W, schema: &Schema) -> Result<(), AllocError>
+    ensures added { OnOk result (W.adds (canonical_columns schema.now) to.old to.new) }
+    ensures want { OnErr result W.may_want }
 {
-    let mut text = String::new(alloc);
-    write_all(&mut text, schema.columns.as_slice())?;
-    text.push_str("chunk_size=")?;
-    write_number(&mut text, schema.chunk_size)?;
-    Ok(text)
+    put_all(to, schema.columns.as_slice())?;
+    to.put("chunk_size=")?;
+    put_number(to, u64::from(schema.chunk_size))
 }
 
 /// Writes each column with a comma and a space behind it.
-fn write_all(text: &mut String, columns: &[Column]) -> Result<(), AllocError>
-    ensures { OnOk result (string_bytes text.new ≡ string_bytes text.old ++ flat_map (λ column. column_text column ++ codes ", ") columns.now) }
+fn put_all<W: Takes>(to: &mut W, columns: &[Column]) -> Result<(), AllocError>
+    ensures added { OnOk result (W.adds (flat_map (λ column. column_text column ++ codes ", ") columns.now) to.old to.new) }
+    ensures want { OnErr result W.may_want }
 {
     for column in columns {
-        write_column(text, column)?;
-        text.push_str(", ")?;
+        put_column(to, column)?;
+        to.put(", ")?;
     }
     Ok(())
 }
 
 /// Writes a column as it is declared.
-fn write_column(text: &mut String, column: &Column) -> Result<(), AllocError>
-    ensures { OnOk result (string_bytes text.new ≡ string_bytes text.old ++ column_text column.now) }
+fn put_column<W: Takes>(to: &mut W, column: &Column) -> Result<(), AllocError>
+    ensures added { OnOk result (W.adds (column_text column.now) to.old to.new) }
+    ensures want { OnErr result W.may_want }
 {
     let name = column.name.as_text();
     match column.kind {
-        Kind::IntKey => write_two(text, name, " integer primary key"),
-        Kind::TextKey => write_two(text, name, " text primary key"),
-        Kind::Int8Vector(width, metric) => write_int8(text, name, width, metric),
-        Kind::BitVector(width) => write_bits(text, name, width),
-        Kind::IntPartition => write_two(text, name, " integer partition key"),
-        Kind::TextPartition => write_two(text, name, " text partition key"),
-        Kind::IntMeta => write_two(text, name, " integer"),
-        Kind::TextMeta => write_two(text, name, " text"),
-        Kind::BoolMeta => write_two(text, name, " boolean"),
-        Kind::IntAux => write_auxiliary(text, name, " integer"),
-        Kind::TextAux => write_auxiliary(text, name, " text"),
-        Kind::BlobAux => write_auxiliary(text, name, " blob"),
+        Kind::IntKey => put_two(to, name, " integer primary key"),
+        Kind::TextKey => put_two(to, name, " text primary key"),
+        Kind::Int8Vector(width, metric) => put_int8_column(to, name, width, metric),
+        Kind::BitVector(width) => put_bit_column(to, name, width),
+        Kind::IntPartition => put_two(to, name, " integer partition key"),
+        Kind::TextPartition => put_two(to, name, " text partition key"),
+        Kind::IntMeta => put_two(to, name, " integer"),
+        Kind::TextMeta => put_two(to, name, " text"),
+        Kind::BoolMeta => put_two(to, name, " boolean"),
+        Kind::IntAux => put_auxiliary(to, name, " integer"),
+        Kind::TextAux => put_auxiliary(to, name, " text"),
+        Kind::BlobAux => put_auxiliary(to, name, " blob"),
     }
 }
 
 /// Writes one text and another behind it.
-fn write_two(text: &mut String, first: &str, second: &str) -> Result<(), AllocError>
-    ensures { OnOk result (string_bytes text.new ≡ string_bytes text.old ++ (first.now ++ second.now)) }
+fn put_two<W: Takes>(to: &mut W, first: &str, second: &str) -> Result<(), AllocError>
+    ensures added { OnOk result (W.adds (first.now ++ second.now) to.old to.new) }
+    ensures want { OnErr result W.may_want }
 {
-    text.push_str(first)?;
-    text.push_str(second)
+    to.put(first)?;
+    to.put(second)
 }
 
 /// Writes an auxiliary column, which has a `+` before its name.
-fn write_auxiliary(text: &mut String, name: &str, words: &str) -> Result<(), AllocError>
-    ensures { OnOk result (string_bytes text.new ≡ string_bytes text.old ++ (codes "+" ++ name.now ++ words.now)) }
+fn put_auxiliary<W: Takes>(to: &mut W, name: &str, words: &str) -> Result<(), AllocError>
+    ensures added { OnOk result (W.adds (codes "+" ++ name.now ++ words.now) to.old to.new) }
+    ensures want { OnErr result W.may_want }
 {
-    text.push_str("+")?;
-    write_two(text, name, words)
+    to.put("+")?;
+    to.put(name)?;
+    to.put(words)
 }
 
-/// Writes a column of vectors of bytes.
-fn write_int8(text: &mut String, name: &str, width: u16, metric: Metric) -> Result<(), AllocError>
-    ensures { OnOk result (string_bytes text.new ≡ string_bytes text.old ++ declared_text name.now (Kind.Int8Vector width metric)) }
+/// Writes a column of int8 vectors.
+fn put_int8_column<W: Takes>(
+    to: &mut W,
+    name: &str,
+    width: u16,
+    metric: Metric,
+) -> Result<(), AllocError>
+    ensures added { OnOk result (W.adds (declared_text name.now (Kind.Int8Vector width metric)) to.old to.new) }
+    ensures want { OnErr result W.may_want }
 {
-    write_two(text, name, " int8[")?;
-    write_number(text, width)?;
-    write_metric(text, metric)
+    put_two(to, name, " int8[")?;
+    put_number(to, u64::from(width))?;
+    to.put("] distance_metric=")?;
+    to.put(metric_name(metric))
 }
 
-/// Writes what stands behind the number of a vector's bytes.
-fn write_metric(text: &mut String, metric: Metric) -> Result<(), AllocError>
-    ensures { OnOk result (string_bytes text.new ≡ string_bytes text.old ++ (codes "] distance_metric=" ++ metric_text metric)) }
+/// Writes a column of bit vectors.
+fn put_bit_column<W: Takes>(to: &mut W, name: &str, width: u16) -> Result<(), AllocError>
+    ensures added { OnOk result (W.adds (declared_text name.now (Kind.BitVector width)) to.old to.new) }
+    ensures want { OnErr result W.may_want }
 {
-    write_two(text, "] distance_metric=", metric_name(metric))
-}
-
-/// Writes a column of vectors of bits.
-fn write_bits(text: &mut String, name: &str, width: u16) -> Result<(), AllocError>
-    ensures { OnOk result (string_bytes text.new ≡ string_bytes text.old ++ declared_text name.now (Kind.BitVector width)) }
-{
-    write_two(text, name, " bit[")?;
-    write_number(text, width)?;
-    text.push_str("]")
+    put_two(to, name, " bit[")?;
+    put_number(to, u64::from(width))?;
+    to.put("]")
 }
 
 /// The name of the metric.
@@ -109,51 +117,5 @@ fn metric_name(metric: Metric) -> &'static str
     match metric {
         Metric::L1 => "l1",
         Metric::L2 => "l2",
-    }
-}
-
-/// Writes a number in decimal.
-fn write_number(text: &mut String, number: u16) -> Result<(), AllocError>
-    ensures { OnOk result (string_bytes text.new ≡ string_bytes text.old ++ decimal number) }
-{
-    let mut buffer = itoa::Buffer::new();
-    text.push_str(buffer.format(number))
-}
-
-#[cfg(test)]
-mod tests {
-    use super::*;
-    use vec_base::List;
-
-    /// Whether a schema of these columns is written as the text.
-    fn writes(alloc: Global, columns: &[(&str, Kind)], wanted: &str) -> Result<bool, Memory> {
-        let mut list = List::new(alloc);
-        for (name, kind) in columns {
-            let name = Txt::from_text(alloc, name)?;
-            list.push(Column { name, kind: *kind })?;
-        }
-        let schema = Schema {
-            columns: list,
-            chunk_size: 1024,
-        };
-        Ok(write_columns(alloc, &schema)?.as_text() == wanted)
-    }
-
-    #[test]
-    fn columns_are_written(rt: HostRuntime) {
-        let one = [("a", Kind::Int8Vector(2, Metric::L2))];
-        let text = "a int8[2] distance_metric=l2, chunk_size=1024";
-        assert!(rt; writes(rt.alloc(), &one, text) == Ok(true));
-        let all = [
-            ("id", Kind::TextKey),
-            ("p", Kind::IntPartition),
-            ("shown", Kind::BoolMeta),
-            ("b", Kind::BitVector(16)),
-            ("e", Kind::Int8Vector(768, Metric::L1)),
-            ("raw", Kind::BlobAux),
-        ];
-        let text =
-            "id text primary key, p integer partition key, shown boolean, b bit[16], e int8[768] distance_metric=l1, +raw blob, chunk_size=1024";
-        assert!(rt; writes(rt.alloc(), &all, text) == Ok(true));
     }
 }

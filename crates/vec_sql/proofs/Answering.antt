@@ -7,7 +7,7 @@ use Rattle.vec_base.specs.declared.refusal.Refusal.TheVariants as refusals
 use Rattle.vec_base.specs.declared.value.Value.{Value}
 use Rattle.row_model.specs.declared.statement.Statement.{Statement}
 use Rattle.grammar.specs.Parameters.{numbered_tokens}
-use Rattle.grammar.specs.inner.ReaderResults.{refusal_by, refusal_of}
+use Rattle.grammar.specs.FailingToken.{refusal_by, refusal_of}
 use Rattle.vec_literal.specs.Tokens.{Token}
 use Rattle.vec0_columns.specs.ColumnGrammar.{text_limit}
 use Rattle.vec_sql.specs.declared.flaw.Flaw.{Flaw}

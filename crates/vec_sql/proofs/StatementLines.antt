@@ -1,8 +1,8 @@
 -- The grammar's lines of statements and their factored forms are the same.
 use Rattle.std.proofs.Common.{◌≡◌, List, [], ◌∷◌, true, refl}
 use Rattle.std.specs.Prelude.{codes, ℕ}
-use Rattle.grammar.specs.Grammar.{Part, seq, alt, opt, means, list_of, a_word, a_mark, a_name, a_signed_number}
-use Rattle.grammar.specs.inner.Reading.{or_default, decides, overlap}
+use Rattle.grammar.specs.Grammar.{Part, seq, alt, opt, means, list_of, a_word, a_mark, a_name, a_signed_number, or_default}
+use Rattle.grammar.specs.inner.Reading.{decides, overlap}
 use Rattle.grammar.proofs.Factoring.{Within, Same, within_refl, within_left, within_right, within_later, within_either, within_means, within_seq, spread, same_refl, same_means, same_seq, same_alt, same_opt, same_many, same_behind, same_before}
 use Rattle.vec_base.specs.Words.{is_reserved}
 use Rattle.vec0_columns.specs.ColumnGrammar.{columns, metric, integer_word, boolean_word, int8, bits, chunk_size}

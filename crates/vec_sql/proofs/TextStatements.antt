@@ -7,8 +7,7 @@ use Rattle.std.specs.List.{list_all, flat_map, AllByRecursion}
 use Rattle.vec_base.specs.Words.{is_name}
 use Rattle.vec_base.specs.declared.value.Value.{Value}
 use Rattle.vec_literal.specs.Lexemes.{Lexeme, word_lexeme, mark_lexeme}
-use Rattle.grammar.specs.Grammar.{Part, list_of, seq, alt, opt, means, ◌▸◌, ◌◂◌, a_word, a_mark, a_name}
-use Rattle.grammar.specs.inner.Reading.{or_default}
+use Rattle.grammar.specs.Grammar.{Part, list_of, seq, alt, opt, means, ◌▸◌, ◌◂◌, a_word, a_mark, a_name, or_default}
 use Rattle.grammar.proofs.Lexemes.{LexemesSpell, of_seq, of_means, of_second, of_first, of_left, of_right, of_none, of_some, of_word, of_mark}
 use Rattle.grammar.proofs.LexemesGive.{LexemesGive, give_known, give_more, give_seq, give_means, give_second, give_first, give_left, give_right, give_none, give_some}
 use Rattle.row_model.specs.declared.schema.Schema.{Schema}

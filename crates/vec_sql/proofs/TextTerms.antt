@@ -11,8 +11,7 @@ use Rattle.vec_base.specs.declared.value.Value.{Value}
 use Rattle.vec_base.specs.Representable.{IsRepresentable}
 use Rattle.vec_literal.specs.Lexemes.{word_lexeme, mark_lexeme}
 use Rattle.vec_literal.proofs.ValuesBefore.{value_lexemes}
-use Rattle.grammar.specs.Grammar.{Part, list_of, a_word, a_mark}
-use Rattle.grammar.specs.inner.Reading.{or_default}
+use Rattle.grammar.specs.Grammar.{Part, list_of, a_word, a_mark, or_default}
 use Rattle.grammar.proofs.Lexemes.{LexemesSpell, of_means, of_left, of_right, of_word, of_mark}
 use Rattle.grammar.proofs.LexemesGive.{LexemesGive, give_known, give_seq, give_means, give_second, give_left, give_right, give_none, give_some}
 use Rattle.grammar.proofs.LiteralLexemes.{give_placed_mark}

@@ -4,8 +4,7 @@ use Rattle.vec_base.specs.declared.value.Op.{Op}
 use Rattle.vec_base.specs.declared.value.Op.TheVariants as ops
 use Rattle.vec_base.specs.declared.value.Value.{Value}
 use Rattle.vec_base.specs.declared.value.Value.TheVariants as values
-use Rattle.grammar.specs.Grammar.{Part, keyword, seq, alt, opt, means, ◌▸◌, ◌◂◌, parts_with, list_of, a_word, a_mark, a_placed_mark, a_name, a_text, a_placed_text, a_blob, a_parameter, a_signed_number}
-use Rattle.grammar.specs.inner.Reading.{or_default}
+use Rattle.grammar.specs.Grammar.{Part, keyword, seq, alt, opt, means, ◌▸◌, ◌◂◌, parts_with, list_of, a_word, a_mark, a_placed_mark, a_name, a_text, a_placed_text, a_blob, a_parameter, a_signed_number, or_default}
 use Rattle.row_model.specs.declared.statement.Items.{Items}
 use Rattle.row_model.specs.declared.statement.Items.TheVariants as items
 use Rattle.row_model.specs.declared.statement.Order.{Order}

@@ -7,7 +7,7 @@ use Rattle.vec_base.specs.declared.value.Value.{Value}
 use Rattle.vec_base.specs.declared.value.Value.TheVariants as values
 use Rattle.vec_literal.specs.Int8.{SpellsInt8}
 use Rattle.vec_literal.specs.Tokens.{Token}
-use Rattle.grammar.specs.inner.ReaderResults.{refusal_of}
+use Rattle.grammar.specs.FailingToken.{refusal_of}
 use Rattle.grammar.specs.Grammar.{Spells, FailsAt}
 use Rattle.grammar.specs.Parameters.{numbered_tokens}
 use Rattle.row_model.specs.declared.statement.Assign.{Assign}

@@ -1,16 +1,14 @@
 -- What a reader of a part returns.
-use Rattle.std.specs.Prelude.{◌≡◌, ◌≤◌, suc, nat_le, nat_lt, if◌then◌else◌, Option, Some, None, true, false, not, ◌||◌, ◌&&◌, ℕ, List, [], ◌∷◌, Result, Ok, Err, Bool, cond, bytes_eq}
+use Rattle.std.specs.Prelude.{◌≡◌, ◌≤◌, suc, nat_le, nat_lt, if◌then◌else◌, Option, Some, None, true, false, not, ◌||◌, ◌&&◌, ℕ, List, [], ◌∷◌, Result, Ok, Err, Bool, bytes_eq}
 use Rattle.std.specs.Str.Parse.{digits_value}
-use Rattle.vec_base.specs.declared.refusal.Refusal.{Refusal}
-use Rattle.vec_base.specs.declared.refusal.Refusal.TheVariants as refusals
 use Rattle.vec_literal.specs.Tokens.{Token, after, bad_at, is_number_text, is_word_text, is_text_literal, is_blob_literal, is_param_text}
 use Rattle.vec_literal.specs.declared.token.TokenSort.TheVariants as sorts
 use Rattle.grammar.specs.declared.reader.Reader.{Reader}
 use Rattle.grammar.specs.declared.reader.Stop.{Stop}
 use Rattle.grammar.specs.declared.reader.Stop.TheVariants as stops
-use Rattle.grammar.specs.Grammar.{is_sort, parameter, number_of, parameter_number, lower, lowered}
+use Rattle.grammar.specs.Grammar.{is_sort, parameter, number_of, parameter_number, lowered}
 use Rattle.grammar.specs.Parameters.{numbered_from}
-use Rattle.vec_base.specs.Words.{unsupported_number}
+use Rattle.vec_base.specs.declared.limits.TheConstants.{MOST_PARAMETERS}
 use Rattle.grammar.specs.inner.Reading.{Outcome, next_in}
 
 -- the tokens that the reader has before it, as they stand in the text
@@ -49,12 +47,12 @@ AtParameter (Some n) ts = (next_in (parameter ∷ []) ts ≡ true) × (n ≡ par
 -- the number that a plain `?` gets, where one that fits is left
 abbrev pub next_number : Option ℕ → Option ℕ
 next_number None = None
-next_number (Some greatest) = if nat_lt greatest 999 then Some (suc greatest) else None
+next_number (Some greatest) = if nat_lt greatest MOST_PARAMETERS then Some (suc greatest) else None
 
--- the parameter's number from 1 to 999 that the digits write, if they write one
+-- the number of a parameter that the digits write, if they write one that fits
 abbrev pub WritesParameter : Option ℕ → List ℕ → Type 0
-WritesParameter None digits = (nat_le 1 (digits_value 10 digits) && nat_le (digits_value 10 digits) 999) ≡ false
-WritesParameter (Some n) digits = ((nat_le 1 (digits_value 10 digits) && nat_le (digits_value 10 digits) 999) ≡ true) × (n ≡ digits_value 10 digits)
+WritesParameter None digits = (nat_le 1 (digits_value 10 digits) && nat_le (digits_value 10 digits) MOST_PARAMETERS) ≡ false
+WritesParameter (Some n) digits = ((nat_le 1 (digits_value 10 digits) && nat_le (digits_value 10 digits) MOST_PARAMETERS) ≡ true) × (n ≡ digits_value 10 digits)
 
 -- the place of the first token, or the text's end
 abbrev pub place_of : ℕ → List Token → ℕ
@@ -74,13 +72,3 @@ is_told t =
 -- a parameter is spelled as such
 abbrev pub is_param_told : Token → Bool
 is_param_told t = not (is_sort sorts.Param t.sort) || is_param_text t.spelling
-
-abbrev pub refusal_by : ℕ → Option ℕ → Refusal
-refusal_by place None = refusals.Syntax place
-refusal_by place (Some n) = refusals.Unsupported n
-
--- Refusal 2 where the failing token is an unsupported word, and else refusal 1 with its place, or the text's length where
--- there is no token.
-abbrev pub refusal_of : ℕ → List Token → Refusal
-refusal_of end [] = refusals.Syntax end
-refusal_of end (t ∷ ts) = refusal_by t.place (cond (is_sort sorts.Word t.sort) (unsupported_number (lower t)) None)

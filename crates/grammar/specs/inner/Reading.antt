@@ -109,7 +109,3 @@ abbrev pub ended : {A : Type 0} → Outcome A → Result A (List Token)
 ended (Ok (v, [])) = Ok v
 ended (Ok (v, t ∷ us)) = Err (t ∷ us)
 ended (Err e) = Err e
-
-abbrev pub or_default : {A : Type 0} → A → Option A → A
-or_default d None = d
-or_default d (Some x) = x

@@ -1,8 +1,7 @@
 -- The grammar of the column text with equal beginnings taken together, so that the next token decides each choice.
 use Rattle.std.specs.Prelude.{List, ◌∷◌, codes}
 use Rattle.vec_literal.specs.Tokens.{Token}
-use Rattle.grammar.specs.Grammar.{Part, one, seq, alt, opt, means, sign, ◌▸◌, list_of}
-use Rattle.grammar.specs.inner.Reading.{or_default}
+use Rattle.grammar.specs.Grammar.{Part, one, seq, alt, opt, means, sign, ◌▸◌, list_of, or_default}
 use Rattle.row_model.specs.declared.schema.Kind.{Kind}
 use Rattle.row_model.specs.declared.schema.Kind.TheVariants as kinds
 use Rattle.vec0_columns.specs.declared.text.Spelled.{Spelled}

@@ -3,8 +3,7 @@ use Rattle.std.specs.Prelude.{ℕ, pos, Bool, true, false, List, ◌∷◌, Opti
 use Rattle.vec_base.specs.declared.value.Op.{Op}
 use Rattle.vec_base.specs.declared.value.Op.TheVariants as ops
 use Rattle.vec_base.specs.declared.value.Value.TheVariants as values
-use Rattle.grammar.specs.Grammar.{Part, keyword, seq, alt, opt, means, ◌▸◌, ◌◂◌, parts_with, list_of, a_word, a_mark, a_name, a_placed_text, a_blob, a_parameter}
-use Rattle.grammar.specs.inner.Reading.{or_default}
+use Rattle.grammar.specs.Grammar.{Part, keyword, seq, alt, opt, means, ◌▸◌, ◌◂◌, parts_with, list_of, a_word, a_mark, a_name, a_placed_text, a_blob, a_parameter, or_default}
 use Rattle.row_model.specs.declared.statement.Order.{Order}
 use Rattle.row_model.specs.declared.statement.Order.TheVariants as orders
 use Rattle.vec0_columns.specs.inner.FactoredColumns.{factored_columns}

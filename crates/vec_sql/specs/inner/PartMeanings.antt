@@ -6,7 +6,7 @@ use Rattle.vec_base.specs.declared.refusal.Refusal.{Refusal}
 use Rattle.vec_base.specs.declared.refusal.Refusal.TheVariants as refusals
 use Rattle.vec_base.specs.declared.value.Value.{Value}
 use Rattle.vec_literal.specs.Tokens.{Token}
-use Rattle.grammar.specs.inner.ReaderResults.{refusal_of}
+use Rattle.grammar.specs.FailingToken.{refusal_of}
 use Rattle.grammar.specs.Grammar.{FailsAt}
 use Rattle.grammar.specs.Parameters.{numbered_tokens}
 use Rattle.row_model.specs.declared.statement.Statement.{Statement}
