@@ -1,4 +1,6 @@
-use super::*;
+//! The longest token.
+
+use vec_literal::{Lexed, TokenSort, next_token};
 
 /// The token's sort and places, `None` at the end, or the place of a byte at which no token can be read.
 type Seen = Result<Option<(TokenSort, usize, usize)>, usize>;

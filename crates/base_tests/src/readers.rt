@@ -1,4 +1,6 @@
-use super::*;
+//! A reader of tokens.
+
+use grammar::Reader;
 use std::test::Fail;
 use vec_base::Refusal;
 
@@ -66,7 +68,7 @@ fn numbers_with_signs_and_places_are_read(rt: HostRuntime) -> Result<(), Fail> {
         return Err(Fail::from("no text"));
     };
     assert_eq!(rt; place, 1);
-    assert_eq!(rt; quoted, b"c''d".as_slice());
+    assert_eq!(rt; quoted.spelling(), b"c''d".as_slice());
     assert_eq!(rt; rest.placed_mark(b")").ok(), Some(8));
     assert_eq!(rt; rest.parameter().ok(), Some(998));
     assert_eq!(rt; rest.parameter().ok(), Some(999));
