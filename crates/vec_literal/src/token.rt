@@ -29,9 +29,6 @@ ghost use Rattle.vec_literal.specs.Tokens.{
 
 use crate::quote::before_quote;
 
-#[cfg(test)]
-mod tests;
-
 /// What a token is: a word, a number, a text in quotes, a blob in hexadecimal digits, a parameter or a mark.
 #[derive(Clone, Copy, Debug, PartialEq, Eq)]
 pub enum TokenSort {
