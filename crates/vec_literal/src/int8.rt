@@ -281,7 +281,13 @@ pub(crate) struct Number {
 }
 
 /// A magnitude that fits no element, with any sign.
-const TOO_LARGE: u16 = 1000;
+pub(crate) const TOO_LARGE: u16 = 1000;
+
+/// The greatest element.
+const GREATEST: u16 = i8::MAX as u16;
+
+/// How many values a byte has.
+const BYTES: u16 = 1 << 8;
 
 impl Number {
     ghost use Rattle.std.specs.Prelude.{IsTrue};
@@ -293,12 +299,12 @@ impl Number {
         ensures { result ≡ byte_of self }
     {
         if self.negative {
-            if self.magnitude <= 128 {
-                Some(((256 - self.magnitude) % 256) as u8)
+            if self.magnitude <= GREATEST + 1 {
+                Some(((BYTES - self.magnitude) % BYTES) as u8)
             } else {
                 None
             }
-        } else if self.magnitude <= 127 {
+        } else if self.magnitude <= GREATEST {
             Some(self.magnitude as u8)
         } else {
             None
