@@ -38,7 +38,7 @@ joined high low i (Some h) None r bytes e = absurd (cc e)
 joined high low i None y r bytes e = absurd (cc e)
 
 -- a digit's value is below 16
-digit_small : (c v : ℕ) → hex_digit_value c ≡ Some v → v < 16
+pub digit_small : (c v : ℕ) → hex_digit_value c ≡ Some v → v < 16
 digit_small c v h = grind (arith)
 
 -- pairs that are decoded are spelled
