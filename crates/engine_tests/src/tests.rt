@@ -1,3 +1,4 @@
+//! What scripts in one session cannot show.
 use plain_engine::PlainEngine;
 use row_model::{Reply, Request, Statement};
 use std::test::Fail;

@@ -10,6 +10,3 @@ mod words;
 pub use list::{Item, listed};
 pub use quoted::Quoted;
 pub use reader::{Reader, Stop};
-
-#[cfg(test)]
-mod tests;

@@ -1,5 +1,6 @@
 pub mod AutoCommitLaws
 pub mod AutoCommitSelects
+mod BoundLaws
 pub mod ExecuteLaws
 pub mod InsertLaws
 pub mod NearLaws

@@ -1,4 +1,5 @@
 pub mod AutoCommit
+pub mod Bounds
 pub mod ByteTotals
 pub mod OneValidity
 pub mod OrderedTables

@@ -1,7 +1,7 @@
 //! The answer of a SELECT.
 ghost use Rattle.std.specs.Prelude.{◌≡◌, ◌<◌, ◌≤◌, ℕ, length, IfOk, map, take, true, nat_lt, None, Some};
 ghost use Rattle.std.specs.List.{AllByRecursion};
-ghost use Rattle.row_model.specs.Answer.{Target as TargetValue, at_zero, met, limited, number_in, limit_in, count_in, count_wanted, chosen, answer, target_of};
+ghost use Rattle.row_model.specs.Answer.{Target as TargetValue, at_zero, counted, counts, limited, number_in, limit_in, count_in, count_wanted, chosen, answer, target_of};
 ghost use Rattle.row_model.specs.Check.{check_select};
 ghost use Rattle.row_model.specs.ColumnNames.{place_of, is_count};
 ghost use Rattle.row_model.specs.inner.ComparableVectors.{IsComparable};
@@ -11,7 +11,7 @@ ghost use Rattle.vec_base.specs.declared.limits.TheConstants.{MOST_REPLY_ROWS};
 ghost use Rattle.row_model.specs.declared.schema.TheConstants.{MOST_COLUMNS};
 
 use crate::items::{item_places, project};
-use crate::meet::meets_all;
+use crate::meet::{meets_bounds, meets_row_terms};
 use crate::nearest::{Near, nearest, target_of};
 use row_model::{Column, Constraint, Place, Row, Select, Table, Test};
 use std::alloc::Global;
@@ -62,7 +62,16 @@ fn count_wanted(columns: &[Column], terms: &[Constraint], limit: &Option<Value>)
     }
 }
 
-/// The first of the rows that meet the terms, at most so many. Behind the last of them no row is looked at.
+/// Whether the row counts where no distance is asked for.
+#[tactic(auto, using(crate::proofs::BoundLaws::counts_split))]
+fn counts_at_zero(columns: &[Column], terms: &[Constraint], row: &Row) -> bool
+    requires narrow { length columns.now ≤ MOST_COLUMNS }
+    ensures { result ≡ counts columns.now terms.now (at_zero row.now) }
+{
+    meets_row_terms(columns, terms, row) && meets_bounds(columns, terms, 0)
+}
+
+/// The first of the rows that count, at most so many. Behind the last of them no row is looked at.
 fn scanned<'a>(
     alloc: Global,
     columns: &[Column],
@@ -71,21 +80,21 @@ fn scanned<'a>(
     rows: &'a [Row],
 ) -> Result<Vec<Near<'a>>, Memory>
     requires narrow { length columns.now ≤ MOST_COLUMNS }
-    ensures { IfOk result (λ nears. nears.items ≡ map at_zero (take most (met columns.now terms.now rows.now))) }
+    ensures { IfOk result (λ nears. nears.items ≡ map at_zero (take most (counted columns.now terms.now None rows.now))) }
 {
     let mut nears = Vec::new(alloc);
     for row in rows {
         if most <= nears.len() {
             return Ok(nears);
         }
-        if meets_all(columns, terms, row) {
+        if counts_at_zero(columns, terms, row) {
             nears.push(Near { distance: 0, row })?;
         }
     }
     Ok(nears)
 }
 
-/// The first LIMIT of the rows that meet the terms, or all of them where there is no LIMIT.
+/// The first LIMIT of the rows that count, or all of them where there is no LIMIT.
 fn limited<'a>(
     alloc: Global,
     columns: &[Column],
@@ -93,7 +102,7 @@ fn limited<'a>(
     rows: &'a [Row],
 ) -> Result<Vec<Near<'a>>, Memory>
     requires narrow { length columns.now ≤ MOST_COLUMNS }
-    ensures { IfOk result (λ nears. nears.items ≡ map at_zero (limited select.now.limit (met columns.now select.now.where_terms rows.now))) }
+    ensures { IfOk result (λ nears. nears.items ≡ map at_zero (limited select.now.limit (counted columns.now select.now.where_terms None rows.now))) }
 {
     let terms = select.where_terms.as_slice();
     match &select.limit {
@@ -113,7 +122,7 @@ fn chosen<'a>(
     requires rising { is_rising rows.now ≡ true }
     requires comparable { (target : TargetValue) → target_of columns.now select.now.where_terms ≡ Some target → AllByRecursion (IsComparable target) rows.now }
     requires few { (target : TargetValue) → target_of columns.now select.now.where_terms ≡ Some target → count_wanted columns.now select.now.where_terms select.now.limit ≤ MOST_REPLY_ROWS }
-    ensures { IfOk result (λ nears. nears.items ≡ chosen (target_of columns.now select.now.where_terms) columns.now select.now (met columns.now select.now.where_terms rows.now)) }
+    ensures { IfOk result (λ nears. nears.items ≡ chosen (target_of columns.now select.now.where_terms) columns.now select.now (counted columns.now select.now.where_terms (target_of columns.now select.now.where_terms) rows.now)) }
 {
     let terms = select.where_terms.as_slice();
     match target_of(columns, terms) {

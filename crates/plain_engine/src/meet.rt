@@ -4,6 +4,8 @@ ghost use Rattle.std.specs.List.{list_any};
 ghost use Rattle.vec_base.specs.declared.value.Op.TheVariants.{Eq};
 ghost use Rattle.vec_base.specs.declared.value.Value.TheVariants.{Null, Int};
 ghost use Rattle.vec_base.specs.Comparison.{satisfies};
+ghost use Rattle.plain_engine.specs.inner.Bounds.{meets_row_terms, meets_bounds};
+ghost use Rattle.row_model.specs.Answer.{is_bounded};
 ghost use Rattle.row_model.specs.Values.{passes, value_at, column_value, meets, meets_all};
 ghost use Rattle.row_model.specs.declared.schema.TheConstants.{MOST_COLUMNS};
 
@@ -77,4 +79,32 @@ pub(crate) fn meets_all(columns: &[Column], terms: &[Constraint], row: &Row) -> 
     ensures { result ≡ meets_all columns.now terms.now row.now }
 {
     terms.iter().all(|term| meets(columns, row, term))
+}
+
+/// Whether the distance stands to the bound of the test.
+fn is_bounded(distance: u32, test: &Test) -> bool
+    ensures { result ≡ is_bounded distance test.now }
+{
+    match test {
+        Test::Compare(op, bound) => Value::Int(i64::from(distance)).satisfies(*op, bound),
+        _ => true,
+    }
+}
+
+/// Whether the row meets the terms that look at it. Terms on `distance` leave no row out.
+pub(crate) fn meets_row_terms(columns: &[Column], terms: &[Constraint], row: &Row) -> bool
+    requires narrow { length columns.now ≤ MOST_COLUMNS }
+    ensures { result ≡ meets_row_terms columns.now terms.now row.now }
+{
+    terms.iter().all(|term| Place::of(columns, &term.column).is_distance()
+        || meets(columns, row, term))
+}
+
+/// Whether the distance meets the terms on `distance`.
+pub(crate) fn meets_bounds(columns: &[Column], terms: &[Constraint], distance: u32) -> bool
+    requires narrow { length columns.now ≤ MOST_COLUMNS }
+    ensures { result ≡ meets_bounds columns.now terms.now distance }
+{
+    terms.iter().all(|term| !Place::of(columns, &term.column).is_distance()
+        || is_bounded(distance, &term.test))
 }

@@ -1,18 +1,19 @@
 //! Rows by their distance from a vector.
-ghost use Rattle.std.specs.Prelude.{◌≡◌, ◌<◌, ◌≤◌, length, IfOk, map, [], true};
+ghost use Rattle.std.specs.Prelude.{◌≡◌, ◌<◌, ◌≤◌, length, IfOk, Some, map, take, [], true, if◌then◌else◌};
 ghost use Rattle.std.specs.List.{list_all, AllByRecursion};
-ghost use Rattle.vec_base.specs.Ranks.{first_ranked};
+ghost use Rattle.vec_base.specs.Ranks.{first_ranked, placed};
 ghost use Rattle.vec_base.specs.inner.Offers.{offered};
 ghost use Rattle.topk_merge.specs.Hits.{is_before as is_hit_before};
 ghost use Rattle.plain_engine.specs.inner.RowHits.{hit_to, near_at, row_with};
-ghost use Rattle.row_model.specs.Answer.{Near as NearRow, Target as TargetValue, is_before, near_to, target_of, met, vector_of, distance_by, distance_in, distance_at};
+ghost use Rattle.row_model.specs.Answer.{Near as NearRow, Target as TargetValue, is_before, near_to, target_of, counted, counts, vector_of, distance_by, distance_in, distance_at};
 ghost use Rattle.row_model.specs.inner.ComparableVectors.{IsComparable};
 ghost use Rattle.row_model.specs.Rows.{has_rowid, is_rising};
+ghost use Rattle.row_model.specs.Schemas.{is_vector};
 ghost use Rattle.row_model.specs.Values.{value_at};
 ghost use Rattle.row_model.specs.declared.schema.TheConstants.{MOST_COLUMNS};
 ghost use Rattle.vec_base.specs.declared.limits.TheConstants.{MOST_DIMENSIONS};
 
-use crate::meet::meets_all;
+use crate::meet::{meets_bounds, meets_row_terms};
 use distance_kernels::{hamming, l1, l2_squared};
 use row_model::{Column, Constraint, Kind, Metric, Place, Row, Test};
 use std::alloc::Global;
@@ -104,8 +105,9 @@ fn distance_by(metric: Metric, a: &[u8], b: &[u8]) -> u32
     }
 }
 
-/// The distance of two vectors of a column.
+/// The distance of two vectors of a vector column.
 fn distance_in(kind: Kind, a: &[u8], b: &[u8]) -> u32
+    requires column { is_vector kind ≡ true }
     requires same_length { length a.now ≡ length b.now }
     requires short { length a.now ≤ MOST_DIMENSIONS }
     ensures { result ≡ distance_in kind a.now b.now }
@@ -113,7 +115,7 @@ fn distance_in(kind: Kind, a: &[u8], b: &[u8]) -> u32
     match kind {
         Kind::Int8Vector(_, metric) => distance_by(metric, a, b),
         Kind::BitVector(_) => hamming(a, b),
-        _ => 0,
+        _ => unreachable!(),
     }
 }
 
@@ -128,7 +130,7 @@ fn distance_at(target: &Target, row: &Row) -> u32
             vector_at(target.place, row),
             vector_of(target.query),
         ),
-        _ => 0,
+        _ => unreachable!(),
     }
 }
 
@@ -143,7 +145,25 @@ fn hit_to(target: &Target, row: &Row) -> Hit
     }
 }
 
-/// The first k hits of the rows that meet the terms.
+/// Offers the hit of a row that counts. Its distance is taken only where it meets the terms that look at it, and the bounds
+/// are tested on this distance.
+#[tactic(auto, using(crate::proofs::BoundLaws::counts_split))]
+fn offer_row(best: &mut Best, columns: &[Column], terms: &[Constraint], target: &Target, row: &Row)
+    requires narrow { length columns.now ≤ MOST_COLUMNS }
+    requires comparable { IsComparable target.now row.now }
+    ensures room { best.new.room ≡ best.old.room }
+    ensures hits { best.new.hits ≡ (if counts columns.now terms.now (near_to target.now row.now) then take best.old.room (placed is_hit_before (hit_to target.now row.now) best.old.hits) else best.old.hits) }
+{
+    if !meets_row_terms(columns, terms, row) {
+        return;
+    }
+    let hit = hit_to(target, row);
+    if meets_bounds(columns, terms, hit.distance) {
+        best.offer(hit);
+    }
+}
+
+/// The first k hits of the rows that count.
 fn best_hits(
     alloc: Global,
     columns: &[Column],
@@ -154,13 +174,11 @@ fn best_hits(
 ) -> Result<Best, Memory>
     requires narrow { length columns.now ≤ MOST_COLUMNS }
     requires comparable { AllByRecursion (IsComparable target.now) rows.now }
-    ensures { IfOk result (λ best. best.hits ≡ offered is_hit_before k [] (map (hit_to target.now) (met columns.now terms.now rows.now))) }
+    ensures { IfOk result (λ best. best.hits ≡ offered is_hit_before k [] (map (hit_to target.now) (counted columns.now terms.now (Some target.now) rows.now))) }
 {
     let mut best = Best::with_room(alloc, k)?;
     for row in rows {
-        if meets_all(columns, terms, row) {
-            best.offer(hit_to(target, row));
-        }
+        offer_row(&mut best, columns, terms, target, row);
     }
     Ok(best)
 }
@@ -193,7 +211,7 @@ fn rows_of<'a>(alloc: Global, hits: &[Hit], rows: &'a [Row]) -> Result<Vec<Near<
     Ok(nears)
 }
 
-/// Of the rows that meet the terms the k nearest to the target, in order.
+/// Of the rows that count the k nearest to the target, in order.
 pub(crate) fn nearest<'a>(
     alloc: Global,
     columns: &[Column],
@@ -205,7 +223,7 @@ pub(crate) fn nearest<'a>(
     requires narrow { length columns.now ≤ MOST_COLUMNS }
     requires comparable { AllByRecursion (IsComparable target.now) rows.now }
     requires rising { is_rising rows.now ≡ true }
-    ensures { IfOk result (λ nears. nears.items ≡ first_ranked is_before k (map (near_to target.now) (met columns.now terms.now rows.now))) }
+    ensures { IfOk result (λ nears. nears.items ≡ first_ranked is_before k (map (near_to target.now) (counted columns.now terms.now (Some target.now) rows.now))) }
 {
     let best = best_hits(alloc, columns, terms, target, k, rows)?;
     rows_of(alloc, best.hits(), rows)

@@ -1,7 +1,7 @@
 //! The rows that UPDATE and DELETE leave.
 ghost use Rattle.std.specs.Prelude.{◌≡◌, ◌≤◌, ◌<◌, ◌+◌, true, false, if◌then◌else◌, length, map, IfOk};
 ghost use Rattle.row_model.specs.declared.row.Table.{Table as TableOf};
-ghost use Rattle.row_model.specs.Answer.{met};
+ghost use Rattle.row_model.specs.Values.{met};
 ghost use Rattle.row_model.specs.Change.{Elsewhere, kept, put_at, set_all, updated, updated_row, update_refusals, long_values, with_rows};
 ghost use Rattle.row_model.specs.Lists.{first};
 ghost use Rattle.plain_engine.specs.inner.ByteTotals.{total_beside};

@@ -1,9 +1,9 @@
 -- What rows hold stays representable: in new rows, in changed ones, and in those that are left.
-use Rattle.std.proofs.Common.{◌≡◌, ℕ, zero, suc, ℤ, pos, negsuc, ◌+ℤ◌, ◌+◌, ◌-◌, ◌<◌, ◌≤◌, Bool, true, false, cond, List, [], ◌∷◌, refl, sym, ap, ◌∙◌, arith, subst, inl, inr, Option, Some, None}
-use Rattle.std.specs.Prelude.{map, int_lt, int_le, slice_set, if◌then◌else◌, FitsSigned, ⊤}
+use Rattle.std.proofs.Common.{◌≡◌, ℕ, zero, suc, ℤ, pos, ◌+ℤ◌, ◌-◌, true, false, List, [], ◌∷◌, arith, inl, inr, Option, Some, None}
+use Rattle.std.specs.Prelude.{int_lt, int_le, slice_set, if◌then◌else◌, FitsSigned, ⊤}
 use Rattle.std.specs.Int.{w64}
 use Rattle.std.specs.List.{AllByRecursion}
-use Rattle.std.proofs.lemmas.Bool.{cases_Bool, le-leb, leb-true, ltb-true}
+use Rattle.std.proofs.lemmas.Bool.{cases_Bool}
 use Rattle.std.proofs.lemmas.Int.{ints}
 use Rattle.vec_base.specs.declared.limits.TheConstants.{LAST_ROWID}
 use Rattle.vec_base.specs.declared.value.Value.{Value}
@@ -18,7 +18,7 @@ use Rattle.row_model.specs.declared.schema.Place.{Place}
 use Rattle.row_model.specs.declared.schema.Place.TheVariants.{Unknown, Rowid, Declared, Count, Distance}
 use Rattle.row_model.specs.declared.statement.Assign.{Assign}
 use Rattle.row_model.specs.declared.statement.Update.{Update}
-use Rattle.row_model.specs.Change.{assigned, blank, given_rowid, keyed, keyed_value, larger, new_row, or_else, put_all, put_at, row_of, rowid_at, set_all, updated, updated_row}
+use Rattle.row_model.specs.Change.{assigned, blank, given_rowid, keyed, keyed_value, larger, new_row, or_else, put_all, put_at, rowid_at, set_all, updated}
 use Rattle.row_model.specs.ColumnNames.{place_of}
 use Rattle.row_model.specs.RepresentableStatements.{AreRepresentable, IsRepresentableAssign}
 use Rattle.row_model.specs.Rows.{with_row}

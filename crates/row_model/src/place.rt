@@ -106,7 +106,7 @@ impl Place {
         matches!(self, Place::Count)
     }
 
-    pub(crate) fn is_distance(self) -> bool
+    pub fn is_distance(self) -> bool
         ensures { result ≡ is_distance self }
     {
         matches!(self, Place::Distance)

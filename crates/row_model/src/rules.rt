@@ -30,8 +30,8 @@ pub const UNTAKEN_OPERATOR: u8 = 9;
 /// UPDATE or DELETE with MATCH or `k`.
 pub const CHANGE_BY_MATCH: u8 = 10;
 
-/// `distance` in a WHERE.
-pub const DISTANCE_IN_WHERE: u8 = 11;
+/// `distance` in a WHERE without MATCH, or not as a bound.
+pub const DISTANCE_BESIDE_BOUNDS: u8 = 11;
 
 /// `k` with anything but `=`.
 pub const COUNT_WITHOUT_EQUAL: u8 = 12;

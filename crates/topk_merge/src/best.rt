@@ -1,3 +1,4 @@
+//! The first hits of those that are offered.
 ghost use Rattle.std.specs.Prelude.{◌≡◌, ◌≤◌, ◌==◌, false, true, [], length, take, IfOk};
 ghost use Rattle.std.specs.Bool.{Decides};
 ghost use Rattle.std.specs.List.{All};

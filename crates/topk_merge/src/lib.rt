@@ -3,8 +3,6 @@
 
 mod best;
 mod hit;
-#[cfg(test)]
-mod tests;
 
 pub use best::Best;
 pub use hit::Hit;

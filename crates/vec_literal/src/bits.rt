@@ -33,37 +33,3 @@ pub fn write_bits(alloc: Global, vector: &[u8]) -> Result<Txt, Memory>
 {
     Ok(Txt::from_string(hex::encode_upper(alloc, vector)?))
 }
-
-#[cfg(test)]
-mod tests {
-    use super::*;
-
-    /// Whether reading the text gives the bytes or the fault.
-    fn reads(rt: &HostRuntime, text: &[u8], wanted: Result<&[u8], LitFault>) -> bool {
-        match (read_bits(rt.alloc(), text), wanted) {
-            (Ok(vector), Ok(bytes)) => vector.as_slice() == bytes,
-            (Err(fault), Err(other)) => fault == other,
-            _ => false,
-        }
-    }
-
-    #[test]
-    fn reads_and_writes_digits(rt: HostRuntime) {
-        let cases: [(&[u8], Result<&[u8], LitFault>); 7] = [
-            (b"", Ok(&[])),
-            (b"0f", Ok(&[15])),
-            (b"aBFF", Ok(&[171, 255])),
-            (b"0", Err(LitFault::OddHex)),
-            (b"0g0", Err(LitFault::OddHex)),
-            (b"0g", Err(LitFault::Place(1))),
-            (b"00:0", Err(LitFault::Place(2))),
-        ];
-        for (text, wanted) in cases {
-            assert!(rt; reads(&rt, text, wanted));
-        }
-        match write_bits(rt.alloc(), &[15, 160]) {
-            Ok(text) => assert!(rt; text.as_text() == "0FA0"),
-            Err(_) => assert!(rt; false),
-        }
-    }
-}

@@ -11,4 +11,4 @@ mod usual_int8;
 pub use bits::{read_bits, write_bits};
 pub use int8::{LitFault, read_int8, write_int8};
 pub use literal::{between_quotes, read_blob, read_text};
-pub use token::{Lexed, Token, TokenSort, next_token};
+pub use token::{Lexed, Token, TokenSort, leading_white, next_token};

@@ -1,4 +1,5 @@
 ghost use Rattle.std.specs.Char.{is_ascii_digit, is_ascii_hexdigit};
+ghost use Rattle.std.specs.List.{prefix_len};
 ghost use Rattle.std.specs.Prelude.{MatchOption, drop, length, true, ◌<◌, ◌≡◌, ◌≤◌};
 ghost use Rattle.vec_literal.specs.inner.Stretches.{
   EndsNowhere,
@@ -27,9 +28,6 @@ ghost use Rattle.vec_literal.specs.Tokens.{
 };
 
 use crate::quote::before_quote;
-
-#[cfg(test)]
-mod tests;
 
 /// What a token is: a word, a number, a text in quotes, a blob in hexadecimal digits, a parameter or a mark.
 #[derive(Clone, Copy, Debug, PartialEq, Eq)]
@@ -142,16 +140,21 @@ fn is_white(byte: u8) -> bool
     matches!(byte, b' ' | b'\t' | b'\n' | FORM_FEED | b'\r')
 }
 
+/// How many bytes of white space the text begins with.
+pub fn leading_white(text: &[u8]) -> usize
+    ensures white { result ≡ prefix_len is_white text.now }
+    ensures inside { result ≤ length text.now }
+{
+    text.iter().take_while(|byte| is_white(**byte)).count()
+}
+
 /// The end of the white space from a place on.
 fn white_end(text: &[u8], from: usize) -> usize
     requires { from ≤ length text.now }
     ensures run { result ≡ run_end is_white text.now from }
     ensures inside { result ≤ length text.now }
 {
-    from + text[from..]
-        .iter()
-        .take_while(|byte| is_white(**byte))
-        .count()
+    from + leading_white(&text[from..])
 }
 
 /// The end of the letters, digits and `_` from a place on.

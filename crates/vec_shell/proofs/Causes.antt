@@ -11,14 +11,14 @@ use Rattle.row_model.specs.Shelled.{AnswersAll}
 use Rattle.vec_shell.specs.declared.shell.Ending.{Ending}
 use Rattle.vec_shell.specs.declared.shell.Ending.TheVariants.{Whole, ReadFault, WriteFault}
 use Rattle.vec_shell.specs.ShellTexts.{Reads}
-use Rattle.vec_shell.specs.Headline.{Streams, Ran, status_at}
-use Rattle.vec_shell.specs.Outcome.{RanShell, RanWhole, NoneRefused, OnlyStarved, SomeRefused}
+use Rattle.vec_shell.specs.Runs.{StreamChange, IsRun, status_at}
+use Rattle.vec_shell.specs.Outcome.{IsShellRun, IsWholeRun, NoneRefused, OnlyStarved, SomeRefused}
 use Rattle.vec_shell.specs.Statuses.{is_refused, is_faulted, is_starved}
 
 -- a run of the session that was opened is a run of the shell
-pub ran_shell : (start last : State) (old new : Streams) (status : ℕ) → answer_of (first_state no_tables) OpenSession ≡ (Session 1, start) →
-    Ran (AnswersAll Reads 1 start) last old new status → RanShell last old new status
-ran_shell start last old new status opened ran = record {
+pub shell_run : (session : ℕ) (start last : State) (change : StreamChange) (status : ℕ) → answer_of (first_state no_tables) OpenSession ≡ (Session session, start) →
+    IsRun (AnswersAll Reads session start) last change status → IsShellRun last change status
+shell_run session start last change status opened ran = record {
   ending = ran.ending;
   bytes = ran.bytes;
   texts = ran.texts;
@@ -27,7 +27,7 @@ ran_shell start last old new status opened ran = record {
   read = ran.read;
   count = ran.count;
   to_end = ran.to_end;
-  run = (1, start, opened, ran.run);
+  run = (session, start, opened, ran.run);
   ended = ran.ended;
   written = ran.written;
   gives = ran.gives;
@@ -72,11 +72,11 @@ starved_by Whole replies e = (refl, whole_7 (list_any is_refused replies) (list_
 starved_by ReadFault replies e = absurd (omega (arith, e))
 starved_by WriteFault replies e = absurd (omega (arith, e))
 
-pub some_refused : (last : State) (old new : Streams) (status : ℕ) → RanShell last old new status → status ≡ 2 → RanWhole SomeRefused old new status
-some_refused last old new status ran two = let cause = refused_by ran.ending ran.replies (sym ran.gives ∙ two) in (last, ran, cause.0, cause.1)
+pub some_refused : (last : State) (change : StreamChange) (status : ℕ) → IsShellRun last change status → status ≡ 2 → IsWholeRun SomeRefused change status
+some_refused last change status ran two = let cause = refused_by ran.ending ran.replies (sym ran.gives ∙ two) in (last, ran, cause.0, cause.1)
 
-pub none_refused : (last : State) (old new : Streams) (status : ℕ) → RanShell last old new status → status ≡ 0 → RanWhole NoneRefused old new status
-none_refused last old new status ran zero_is = let cause = none_by ran.ending ran.replies (sym ran.gives ∙ zero_is) in (last, ran, cause.0, cause.1)
+pub none_refused : (last : State) (change : StreamChange) (status : ℕ) → IsShellRun last change status → status ≡ 0 → IsWholeRun NoneRefused change status
+none_refused last change status ran zero_is = let cause = none_by ran.ending ran.replies (sym ran.gives ∙ zero_is) in (last, ran, cause.0, cause.1)
 
-pub only_starved : (last : State) (old new : Streams) (status : ℕ) → RanShell last old new status → status ≡ 7 → RanWhole OnlyStarved old new status
-only_starved last old new status ran seven = let cause = starved_by ran.ending ran.replies (sym ran.gives ∙ seven) in (last, ran, cause.0, cause.1)
+pub only_starved : (last : State) (change : StreamChange) (status : ℕ) → IsShellRun last change status → status ≡ 7 → IsWholeRun OnlyStarved change status
+only_starved last change status ran seven = let cause = starved_by ran.ending ran.replies (sym ran.gives ∙ seven) in (last, ran, cause.0, cause.1)

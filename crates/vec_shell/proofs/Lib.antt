@@ -1,11 +1,9 @@
+pub mod Buffering
 pub mod Causes
-pub mod Handing
+pub mod CutterLaws
 pub mod Kept
+pub mod LoopLaws
 pub mod PieceLaws
-pub mod Progressing
+pub mod ProgressLaws
 pub mod SentLaws
-pub mod Serving
-pub mod Standing
-pub mod Texts
-pub mod Wording
-pub mod Writing
+pub mod WriteLaws

@@ -1,26 +1,19 @@
 -- The lines that the shell writes for a reply.
-use Rattle.std.specs.Prelude.{ℕ, ◌/◌, ◌%◌, ◌==◌, if◌then◌else◌, List, [], ◌∷◌, ◌++◌, length, slice_index, codes}
-use Rattle.std.specs.Fmt.{decimal, signed_decimal}
+use Rattle.std.specs.Prelude.{ℕ, List, [], ◌++◌, length, codes}
 use Rattle.std.specs.List.{flat_map}
 use Rattle.vec_base.specs.declared.value.Value.{Value}
-use Rattle.vec_base.specs.declared.value.Value.TheVariants.{Null, Int, Text, Blob, Int8, Bits}
 use Rattle.vec_base.specs.Refusals.{number_of}
-use Rattle.vec_literal.specs.Int8.{int8_text}
-use Rattle.vec_literal.specs.ValueTexts.{value_text}
+use Rattle.vec_text.specs.Lists.{separated}
+use Rattle.vec_text.specs.RefusalTexts.{counted, signed_counted, refusal_text}
+use Rattle.vec_text.specs.ValueTexts.{value_text}
 use Rattle.row_model.specs.declared.request.Reply.{Reply}
 use Rattle.row_model.specs.declared.request.Reply.TheVariants.{Done, Inserted, Changed, Rows, Planned, Session, Cursor, Page, Refused}
 use Rattle.row_model.specs.declared.request.Shape.{Shape}
 use Rattle.row_model.specs.declared.request.Shape.TheVariants.{Point, Scan, Nearest}
-use Rattle.row_model.specs.RefusalTexts.{refusal_text}
 
 -- the values with `|` between them
-abbrev pub values_text : List Value → List ℕ
-values_text [] = []
-values_text (v ∷ []) = value_text v
-values_text (v ∷ w ∷ vs) = value_text v ++ 124 ∷ values_text (w ∷ vs)
-
 abbrev pub row_line : List Value → List ℕ
-row_line values = values_text values ++ 10 ∷ []
+row_line values = separated (codes "|") value_text values ++ codes "\n"
 
 -- how a SELECT is carried out
 abbrev pub shape_text : Shape → List ℕ
@@ -31,11 +24,11 @@ shape_text Nearest = codes "plan nearest\n"
 -- The lines of a reply, each with a line feed. That a session was opened is not written, and the shell has no cursors.
 abbrev pub lines : Reply → List ℕ
 lines Done = codes "ok\n"
-lines (Inserted count last) = codes "ok inserted " ++ decimal count ++ codes " last " ++ signed_decimal last ++ codes "\n"
-lines (Changed count) = codes "ok changed " ++ decimal count ++ codes "\n"
-lines (Rows rows) = flat_map row_line rows ++ codes "rows " ++ decimal (length rows) ++ codes "\n"
+lines (Inserted count last) = counted (codes "ok inserted ") count ++ signed_counted (codes " last ") last ++ codes "\n"
+lines (Changed count) = counted (codes "ok changed ") count ++ codes "\n"
+lines (Rows rows) = flat_map row_line rows ++ counted (codes "rows ") (length rows) ++ codes "\n"
 lines (Planned shape) = shape_text shape
-lines (Refused refusal) = codes "error " ++ decimal (number_of refusal) ++ codes " " ++ refusal_text refusal ++ codes "\n"
+lines (Refused refusal) = counted (codes "error ") (number_of refusal) ++ codes " " ++ refusal_text refusal ++ codes "\n"
 lines (Session id) = []
 lines (Cursor number) = []
 lines (Page rows done) = []

@@ -9,8 +9,8 @@ use Rattle.row_model.specs.Machine.{no_tables}
 use Rattle.row_model.specs.Shelled.{Shelled}
 use Rattle.vec_shell.specs.declared.shell.Ending.TheVariants.{Whole}
 use Rattle.vec_shell.specs.ShellTexts.{Reads}
-use Rattle.vec_shell.specs.Headline.{Streams, Ran}
-use Rattle.vec_shell.specs.Sending.{IsFront}
+use Rattle.vec_shell.specs.Runs.{StreamChange, IsRun}
+use Rattle.vec_shell.specs.Fronts.{IsFront}
 use Rattle.vec_shell.specs.Statuses.{is_refused, is_faulted, is_starved}
 
 -- the words are exactly `shell`
@@ -25,12 +25,12 @@ LastLine line taken taken' faults faults' =
     Gains taken line taken' ⊎ ((front : List ℕ) × IsFront front line × Gains taken front taken' × Rose faults faults')
 
 -- A run of the shell: one session is opened over no tables, and its texts get these replies.
-abbrev pub RanShell : State → Streams → Streams → ℕ → Type 0
-RanShell last old new status = Ran (Shelled Reads no_tables) last old new status
+abbrev pub IsShellRun : State → StreamChange → ℕ → Type 0
+IsShellRun last change status = IsRun (Shelled Reads no_tables) last change status
 
 -- a run of the shell that came to the end of its input, with such replies
-abbrev pub RanWhole : (List Reply → Type 0) → Streams → Streams → ℕ → Type 0
-RanWhole Such old new status = (last : State) × (ran : RanShell last old new status) × (ran.ending ≡ Whole) × Such ran.replies
+abbrev pub IsWholeRun : (List Reply → Type 0) → StreamChange → ℕ → Type 0
+IsWholeRun Such change status = (last : State) × (ran : IsShellRun last change status) × (ran.ending ≡ Whole) × Such ran.replies
 
 -- some reply is a refusal 1 to 23
 abbrev pub SomeRefused : List Reply → Type 0

@@ -1,5 +1,6 @@
+pub mod Cutting
 pub mod LoopRuns
 pub mod Progress
 pub mod Puts
-pub mod Quotes
-pub mod ShellParts
+pub mod Sending
+pub mod Tallies

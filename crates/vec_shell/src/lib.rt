@@ -2,22 +2,14 @@
 #![tactic(auto)]
 
 mod cutter;
+mod lines;
 mod output;
 mod plain_session;
+mod printer;
 mod session;
 mod shell;
 mod tally;
 mod top;
-mod writer;
 
 pub use shell::Ending;
 pub use top::run;
-
-#[cfg(test)]
-mod rows_tests;
-#[cfg(test)]
-mod scripts;
-#[cfg(test)]
-mod tests;
-#[cfg(test)]
-mod transcripts;

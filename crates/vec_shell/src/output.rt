@@ -1,8 +1,10 @@
-ghost use Rattle.std.specs.Prelude.{◌≡◌, ◌≤◌, ℕ, List, [], ◌∷◌, true, MatchBool, IfOk, OnOk, OnErr};
+//! What is held in front of a sink.
+
+ghost use Rattle.std.specs.Prelude.{◌≡◌, ◌≤◌, ℕ, List, [], true, MatchBool, IfOk, OnOk, OnErr};
 ghost use Rattle.std.specs.declared.option.Option.{Option};
 ghost use Rattle.vec_base.specs.Streams.{Rose, Gains};
 ghost use Rattle.vec_shell.specs.inner.Puts.{Puts};
-ghost use Rattle.vec_shell.specs.Sending.{CutOff, Sent, Handed};
+ghost use Rattle.vec_shell.specs.inner.Sending.{CutOff, Sent, Buffered};
 
 use std::alloc::Global;
 use vec_base::{Bytes, Memory, Sink, WriteOutcome};
@@ -69,7 +71,7 @@ impl Output {
 
     /// Prepares the output for a new reply.
     pub(crate) fn begin(&mut self)
-        ensures { (base : Option (List ℕ)) (start : ℕ) → Handed base start [] self.new base start }
+        ensures { (base : Option (List ℕ)) (start : ℕ) → Buffered base start [] self.new base start }
     {
         self.held.clear();
         self.going = true;
@@ -78,8 +80,8 @@ impl Output {
     /// Hands what is held to the sink. Nothing is held then where the output still goes.
     pub(crate) fn flush<O: Sink>(&mut self, sink: &mut O)
         ensures keeps { (base : Option (List ℕ)) (start : ℕ) (bytes : List ℕ) →
-            Handed base start bytes self.old (O.taken sink.old) (O.faults sink.old) →
-            Handed base start bytes self.new (O.taken sink.new) (O.faults sink.new) }
+            Buffered base start bytes self.old (O.taken sink.old) (O.faults sink.old) →
+            Buffered base start bytes self.new (O.taken sink.new) (O.faults sink.new) }
         ensures held { self.new.going ≡ true → self.new.held ≡ [] }
     {
         if !self.going {
@@ -92,8 +94,8 @@ impl Output {
     /// Flushes where a piece or more is held.
     fn flush_piece<O: Sink>(&mut self, sink: &mut O)
         ensures { (base : Option (List ℕ)) (start : ℕ) (bytes : List ℕ) →
-            Handed base start bytes self.old (O.taken sink.old) (O.faults sink.old) →
-            Handed base start bytes self.new (O.taken sink.new) (O.faults sink.new) }
+            Buffered base start bytes self.old (O.taken sink.old) (O.faults sink.old) →
+            Buffered base start bytes self.new (O.taken sink.new) (O.faults sink.new) }
     {
         if self.held.len() >= PIECE {
             self.flush(sink);
@@ -142,25 +144,10 @@ impl Output {
         }
     }
 
-    /// Adds a byte to what is to be written. After a fault of the sink it does nothing.
-    pub(crate) fn put_byte<O: Sink>(&mut self, sink: &mut O, byte: u8)
-        ensures { Puts (byte ∷ [])
-            self.old (O.taken sink.old) (O.faults sink.old)
-            self.new (O.taken sink.new) (O.faults sink.new) }
-    {
-        if !self.going {
-            return;
-        }
-        match self.held.push(byte) {
-            Ok(()) => self.flush_piece(sink),
-            Err(Memory) => self.put_directly(sink, &[byte]),
-        }
-    }
-
     /// Hands the rest to the sink. Answers whether the sink has taken all.
     pub(crate) fn end<O: Sink>(&mut self, sink: &mut O) -> bool
         ensures { (base : Option (List ℕ)) (start : ℕ) (bytes : List ℕ) →
-            Handed base start bytes self.old (O.taken sink.old) (O.faults sink.old) →
+            Buffered base start bytes self.old (O.taken sink.old) (O.faults sink.old) →
             Sent base start bytes result (O.taken sink.new) (O.faults sink.new) }
     {
         self.flush(sink);

@@ -1,3 +1,5 @@
+//! A session over the plain engine.
+
 ghost use Rattle.std.specs.Prelude.{◌≡◌, [], IfOk};
 ghost use Rattle.row_model.specs.declared.request.Request.TheVariants.{OpenSession};
 ghost use Rattle.row_model.specs.declared.request.Reply.TheVariants.{Session as Opened};
@@ -11,7 +13,10 @@ use std::alloc::Global;
 use vec_base::{List, Memory, Refusal, Value};
 use vec_sql::read_statement;
 
-/// A session with the id 1, over the plain engine.
+/// The id of the first session that is opened.
+pub(crate) const FIRST: u32 = 1;
+
+/// The first session that is opened over the plain engine.
 #[derive(Drop)]
 pub(crate) struct PlainSession {
     alloc: Global,
@@ -23,7 +28,7 @@ pub(crate) struct PlainSession {
 impl PlainSession {
     /// Opens the session over no tables.
     pub(crate) fn open(alloc: Global) -> Result<PlainSession, Memory>
-        ensures { IfOk result (λ session. answer_of (first_state no_tables) OpenSession ≡ (Opened 1, session.engine)) }
+        ensures { IfOk result (λ session. answer_of (first_state no_tables) OpenSession ≡ (Opened FIRST, session.engine)) }
     {
         let mut engine = PlainEngine::new(alloc)?;
         match engine.answer(Request::OpenSession) {
@@ -38,13 +43,17 @@ impl PlainSession {
 }
 
 impl Session for PlainSession {
+    ghost use Rattle.vec_shell.specs.declared.plain_session.TheConstants.{FIRST};
+
+    ghost id = { FIRST };
+
     ghost state = { λ session. session.engine };
 
     fn answer(&mut self, text: &[u8]) -> Reply {
         match read_statement(self.alloc, text, &self.no_parameters) {
             Ok(statement) => {
                 if statement.is_direct() {
-                    self.engine.answer(Request::Execute(1, statement))
+                    self.engine.answer(Request::Execute(FIRST, statement))
                 } else {
                     Reply::Refused(Refusal::Unsupported(0))
                 }

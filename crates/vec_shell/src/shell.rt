@@ -1,22 +1,24 @@
+//! The loop of the shell: from the source's blocks to the replies.
+
 ghost use Rattle.std.specs.Prelude.{◌≡◌, ◌≢◌, ℕ, ◌<◌, List, [], ◌∷◌, length};
 ghost use Rattle.vec_base.specs.Streams.{Rose};
 ghost use Rattle.row_model.specs.Shelled.{Answers, AnswersAll};
 ghost use Rattle.vec_shell.specs.declared.shell.Ending.TheVariants.{ReadFault};
 ghost use Rattle.vec_shell.specs.ShellTexts.{Reads};
-ghost use Rattle.vec_shell.specs.Headline.{Ran, streams};
-ghost use Rattle.vec_shell.specs.inner.ShellParts.{Stands};
+ghost use Rattle.vec_shell.specs.Runs.{IsRun, change_of};
+ghost use Rattle.vec_shell.specs.inner.Cutting.{CutterHolds};
 ghost use Rattle.vec_shell.specs.Pieces.{trim};
 ghost use Rattle.vec_shell.specs.inner.Progress.{moment, AnswersPiece, TakesBytes};
-ghost use Rattle.vec_shell.specs.inner.LoopRuns.{Served, StatusOf};
+ghost use Rattle.vec_shell.specs.inner.LoopRuns.{LoopOutcome, StatusOf};
 
 use crate::cutter::Cutter;
 use crate::output::Output;
+use crate::printer::write_reply;
 use crate::session::Session;
 use crate::tally::Tally;
-use crate::writer::write_reply;
 use row_model::Reply;
 use std::alloc::Global;
-use vec_base::{ReadOutcome, Memory, Refusal, Sink, Source};
+use vec_base::{Memory, ReadOutcome, Refusal, Sink, Source};
 
 /// How many bytes are asked of the source at once.
 const BLOCK: usize = 65_536;
@@ -39,7 +41,7 @@ pub(crate) struct Shell<Z: Session> {
 
 /// The reply to the piece, which is a text.
 fn reply_to<Z: Session>(session: &mut Z, cutter: &Cutter) -> Reply
-    ensures { (piece : List ℕ) → Stands cutter.now piece → Answers Reads 1 (Z.state session.old) (trim piece) result (Z.state session.new) }
+    ensures { (piece : List ℕ) → CutterHolds cutter.now piece → Answers Reads Z.id (Z.state session.old) (trim piece) result (Z.state session.new) }
 {
     if cutter.lost {
         return Reply::Refused(Refusal::WantOfMemory);
@@ -50,7 +52,7 @@ fn reply_to<Z: Session>(session: &mut Z, cutter: &Cutter) -> Reply
 impl<Z: Session> Shell<Z> {
     /// Answers the piece as it stands, if it is a text. Answers whether the sink took the reply.
     fn answer_piece<O: Sink>(&mut self, sink: &mut O) -> bool
-        ensures { AnswersPiece result
+        ensures { AnswersPiece Z.id result
             (moment (Z.state self.old.session) self.old.cutter self.old.tally (O.taken sink.old) (O.faults sink.old))
             (moment (Z.state self.new.session) self.new.cutter self.new.tally (O.taken sink.new) (O.faults sink.new)) }
     {
@@ -66,7 +68,7 @@ impl<Z: Session> Shell<Z> {
 
     /// Takes a byte, and answers the text that it ends. Answers whether the sink took the reply.
     fn take_byte<O: Sink>(&mut self, sink: &mut O, byte: u8) -> bool
-        ensures { TakesBytes (byte ∷ []) result
+        ensures { TakesBytes Z.id (byte ∷ []) result
             (moment (Z.state self.old.session) self.old.cutter self.old.tally (O.taken sink.old) (O.faults sink.old))
             (moment (Z.state self.new.session) self.new.cutter self.new.tally (O.taken sink.new) (O.faults sink.new)) }
     {
@@ -79,13 +81,18 @@ impl<Z: Session> Shell<Z> {
 
     /// Takes bytes, and answers each text that they end. Answers whether the sink took all replies.
     fn take_bytes<O: Sink>(&mut self, sink: &mut O, bytes: &[u8]) -> bool
-        ensures { TakesBytes bytes.now result
+        ensures { TakesBytes Z.id bytes.now result
             (moment (Z.state self.old.session) self.old.cutter self.old.tally (O.taken sink.old) (O.faults sink.old))
             (moment (Z.state self.new.session) self.new.cutter self.new.tally (O.taken sink.new) (O.faults sink.new)) }
     {
-        for byte in bytes {
-            if !self.take_byte(sink, *byte) {
-                return false;
+        let mut at = 0;
+        while at < bytes.len() {
+            at += self.cutter.add_run(&bytes[at..]);
+            if at < bytes.len() {
+                if !self.take_byte(sink, bytes[at]) {
+                    return false;
+                }
+                at += 1;
             }
         }
         true
@@ -99,7 +106,7 @@ impl<Z: Session> Shell<Z> {
         block: &mut [u8],
     ) -> Ending
         requires { 0 < length block.old }
-        ensures served { Served result (S.left source.old) (S.left source.new) (S.given source.old) (S.given source.new)
+        ensures outcome { LoopOutcome Z.id result (S.left source.old) (S.left source.new) (S.given source.old) (S.given source.new)
             (moment (Z.state self.old.session) self.old.cutter self.old.tally (O.taken sink.old) (O.faults sink.old))
             (moment (Z.state self.new.session) self.new.cutter self.new.tally (O.taken sink.new) (O.faults sink.new)) }
         ensures cause { result ≡ ReadFault → Rose (S.faults source.old) (S.faults source.new) }
@@ -167,9 +174,8 @@ pub(crate) fn run_session<Z: Session, S: Source, O: Sink>(
     source: &mut S,
     sink: &mut O,
 ) -> Finished<Z>
-    ensures ran { Ran (AnswersAll Reads 1 (Z.state session)) (Z.state result.session)
-        (streams (S.left source.old) (S.given source.old) (O.taken sink.old))
-        (streams (S.left source.new) (S.given source.new) (O.taken sink.new)) result.status }
+    ensures ran { IsRun (AnswersAll Reads Z.id (Z.state session)) (Z.state result.session)
+        (change_of S.left S.given O.taken source.old source.new sink.old sink.new) result.status }
     ensures read { result.status ≡ 3 → Rose (S.faults source.old) (S.faults source.new) }
     ensures write { result.status ≡ 4 → Rose (O.faults sink.old) (O.faults sink.new) }
 {

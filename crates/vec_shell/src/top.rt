@@ -1,15 +1,17 @@
+//! All that the program does.
+
 ghost use Rattle.std.specs.Prelude.{◌≡◌, ◌⊎◌, ◌↔◌, true, false, map, codes, string_bytes, IfOk};
 ghost use Rattle.vec_base.specs.Streams.{Rose};
-ghost use Rattle.vec_shell.specs.Headline.{streams};
+ghost use Rattle.vec_shell.specs.Runs.{change_of};
 ghost use Rattle.row_model.specs.declared.request.Request.TheVariants.{OpenSession};
 ghost use Rattle.row_model.specs.declared.request.Reply.TheVariants.{Session as Opened};
 ghost use Rattle.row_model.specs.declared.state.State.{State};
 ghost use Rattle.row_model.specs.Machine.{first_state, no_tables};
 ghost use Rattle.row_model.specs.Step.{answer_of};
-ghost use Rattle.vec_shell.specs.Outcome.{is_shell, LastLine, NoneRefused, OnlyStarved, RanShell, RanWhole, SomeRefused};
+ghost use Rattle.vec_shell.specs.Outcome.{is_shell, LastLine, NoneRefused, OnlyStarved, IsShellRun, IsWholeRun, SomeRefused};
 
 use crate::output::write_all;
-use crate::plain_session::PlainSession;
+use crate::plain_session::{FIRST, PlainSession};
 use crate::shell::{Room, run_session};
 use std::alloc::Global;
 use vec_base::{Memory, Sink, Source};
@@ -25,7 +27,7 @@ fn is_shell(words: &[String]) -> bool
 
 /// The memory of a run, and its session.
 fn open(alloc: Global) -> Result<(Room, PlainSession), Memory>
-    ensures { IfOk result (λ opened. answer_of (first_state no_tables) OpenSession ≡ (Opened 1, opened.1.engine)) }
+    ensures { IfOk result (λ opened. answer_of (first_state no_tables) OpenSession ≡ (Opened FIRST, opened.1.engine)) }
 {
     Ok((Room::new(alloc)?, PlainSession::open(alloc)?))
 }
@@ -40,21 +42,17 @@ pub fn run<S: Source, O: Sink>(alloc: Global, words: &[String], source: &mut S, 
 
     // The run itself, or want of memory before the source is touched.
     ensures shell { is_shell (map string_bytes words.now) ≡ true →
-        ((last : State) × RanShell last (streams (S.left source.old) (S.given source.old) (O.taken sink.old))
-        (streams (S.left source.new) (S.given source.new) (O.taken sink.new)) result)
+        ((last : State) × IsShellRun last (change_of S.left S.given O.taken source.old source.new sink.old sink.new) result)
         ⊎ ((result ≡ 7) × (source.new ≡ source.old)
         × LastLine (codes "error memory\n") (O.taken sink.old) (O.taken sink.new) (O.faults sink.old) (O.faults sink.new)) }
 
     // What each status is caused by.
-    ensures none_refused { result ≡ 0 → RanWhole NoneRefused (streams (S.left source.old) (S.given source.old) (O.taken sink.old))
-        (streams (S.left source.new) (S.given source.new) (O.taken sink.new)) result }
-    ensures some_refused { result ≡ 2 → RanWhole SomeRefused (streams (S.left source.old) (S.given source.old) (O.taken sink.old))
-        (streams (S.left source.new) (S.given source.new) (O.taken sink.new)) result }
+    ensures none_refused { result ≡ 0 → IsWholeRun NoneRefused (change_of S.left S.given O.taken source.old source.new sink.old sink.new) result }
+    ensures some_refused { result ≡ 2 → IsWholeRun SomeRefused (change_of S.left S.given O.taken source.old source.new sink.old sink.new) result }
     ensures read_failed { result ≡ 3 → Rose (S.faults source.old) (S.faults source.new) }
     ensures write_failed { result ≡ 4 → Rose (O.faults sink.old) (O.faults sink.new) }
     ensures starved { result ≡ 7 →
-        RanWhole OnlyStarved (streams (S.left source.old) (S.given source.old) (O.taken sink.old))
-        (streams (S.left source.new) (S.given source.new) (O.taken sink.new)) result
+        IsWholeRun OnlyStarved (change_of S.left S.given O.taken source.old source.new sink.old sink.new) result
         ⊎ ((source.new ≡ source.old)
         × LastLine (codes "error memory\n") (O.taken sink.old) (O.taken sink.new) (O.faults sink.old) (O.faults sink.new)) }
 {

@@ -1,5 +1,5 @@
 -- The texts of refusals.
-use Rattle.std.specs.Prelude.{ℕ, List, ◌∷◌, ◌++◌, get_or, codes}
+use Rattle.std.specs.Prelude.{ℕ, ℤ, List, ◌∷◌, ◌++◌, get_or, codes}
 use Rattle.std.specs.Fmt.{decimal, signed_decimal}
 use Rattle.vec_base.specs.Words.{unsupported_words}
 use Rattle.vec_text.specs.declared.refusal.TheConstants.{NO_WORD}
@@ -13,6 +13,10 @@ unsupported_word number = get_or (NO_WORD.now ∷ unsupported_words) number NO_W
 -- words and a number behind them
 abbrev pub counted : List ℕ → ℕ → List ℕ
 counted words number = words ++ decimal number
+
+-- words and a signed number behind them
+abbrev pub signed_counted : List ℕ → ℤ → List ℕ
+signed_counted words number = words ++ signed_decimal number
 
 abbrev pub refusal_text : Refusal → List ℕ
 refusal_text (Syntax place) = counted (codes "syntax at ") place
@@ -28,11 +32,11 @@ refusal_text (VectorShape column wanted got) =
     counted (codes "vector column ") column ++ counted (codes " wants ") wanted ++ counted (codes " got ") got
 refusal_text (NotNull column) = counted (codes "null in column ") column
 refusal_text (FixedColumn column) = counted (codes "fixed column ") column
-refusal_text (KRange k) = codes "k out of range " ++ signed_decimal k
+refusal_text (KRange k) = signed_counted (codes "k out of range ") k
 refusal_text (KnnForm rule) = counted (codes "nearest rule ") rule
 refusal_text (Busy session) = counted (codes "busy session ") session
 refusal_text (OldSnapshot at latest) = counted (codes "old snapshot ") at ++ counted (codes " latest ") latest
-refusal_text (Duplicate rowid) = codes "duplicate rowid " ++ signed_decimal rowid
+refusal_text (Duplicate rowid) = signed_counted (codes "duplicate rowid ") rowid
 refusal_text RowidsSpent = codes "rowids spent"
 refusal_text (Full limit count) = counted (codes "full limit ") limit ++ counted (codes " count ") count
 refusal_text NoSavepoint = codes "no savepoint"

@@ -1,8 +1,7 @@
 //! The texts of refusals.
 
 ghost use Rattle.std.specs.Prelude.{◌≡◌, ◌++◌, OnOk, OnErr, map, get_or};
-ghost use Rattle.std.specs.Fmt.{signed_decimal};
-ghost use Rattle.vec_text.specs.RefusalTexts.{counted, refusal_text, unsupported_word};
+ghost use Rattle.vec_text.specs.RefusalTexts.{counted, signed_counted, refusal_text, unsupported_word};
 
 use crate::{Takes, put_number, put_signed};
 use std::alloc::AllocError;
@@ -52,7 +51,7 @@ pub fn put_refusal<W: Takes>(to: &mut W, refusal: &Refusal) -> Result<(), AllocE
 }
 
 /// Writes words and a number behind them.
-fn put_counted<W: Takes>(to: &mut W, words: &str, number: u64) -> Result<(), AllocError>
+pub fn put_counted<W: Takes>(to: &mut W, words: &str, number: u64) -> Result<(), AllocError>
     ensures added { OnOk result (W.adds (counted words.now number) to.old to.new) }
     ensures want { OnErr result W.may_want }
 {
@@ -61,8 +60,8 @@ fn put_counted<W: Takes>(to: &mut W, words: &str, number: u64) -> Result<(), All
 }
 
 /// Writes words and a signed number behind them.
-fn put_signed_counted<W: Takes>(to: &mut W, words: &str, number: &i64) -> Result<(), AllocError>
-    ensures added { OnOk result (W.adds (words.now ++ signed_decimal number.now) to.old to.new) }
+pub fn put_signed_counted<W: Takes>(to: &mut W, words: &str, number: &i64) -> Result<(), AllocError>
+    ensures added { OnOk result (W.adds (signed_counted words.now number.now) to.old to.new) }
     ensures want { OnErr result W.may_want }
 {
     to.put(words)?;

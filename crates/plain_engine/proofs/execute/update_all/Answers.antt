@@ -1,5 +1,5 @@
 use Rattle.std.proofs.Common.{◌≡◌, length, sym, ◌∙◌, rules}
-use Rattle.row_model.specs.Answer.{met}
+use Rattle.row_model.specs.Values.{met}
 use Rattle.row_model.specs.Change.{Elsewhere, elsewhere, updated, update_refusals}
 use Rattle.row_model.specs.Step.{with_tables}
 use Rattle.plain_engine.specs.inner.ByteTotals.{total_beside}

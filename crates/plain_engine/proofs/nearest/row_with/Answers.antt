@@ -1,7 +1,6 @@
-use Rattle.std.proofs.Common.{ℤ, pos, [], rules, true, sym, ◌∙◌}
+use Rattle.std.proofs.Common.{rules, sym, ◌∙◌}
 use Rattle.std.proofs.lemmas.Bool.{false≢true}
 use Rattle.std.proofs.lemmas.Fn.{always_returns_same}
-use Rattle.row_model.specs.declared.row.Row.{Row}
 use Rattle.row_model.proofs.RowLaws.{compared, rising_searchable, gap_found, no_rowid_at}
 use Rattle.plain_engine.proofs.NearLaws.{row_with_at}
 use Rattle.plain_engine.proofs.nearest.row_with.Goals as goal

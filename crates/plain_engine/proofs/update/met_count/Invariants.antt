@@ -1,5 +1,5 @@
 use Rattle.std.proofs.Common.{◌≡◌, ◌≤◌, take, length}
-use Rattle.row_model.specs.Answer.{met}
+use Rattle.row_model.specs.Values.{met}
 use Rattle.plain_engine.proofs.update.met_count.Given as goal
 
 abbrev pub invariant-loop-row : goal.invariant-loop-row

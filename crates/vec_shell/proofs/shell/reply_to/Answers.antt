@@ -6,7 +6,7 @@ use Rattle.vec_shell.proofs.Kept.{answers_kept}
 use Rattle.vec_shell.proofs.shell.reply_to.Goals as goal
 
 pub returns : goal.returns
-returns g c = λ piece stands.
-    answers_kept 1 (g.Z.Session.state c.args.session.now) (g.Z.Session.state c.answer.new.self) (trim piece) c.answer.result
-    (subst (λ (t : List ℕ). Answers Reads 1 (g.Z.Session.state c.args.session.now) t c.answer.result (g.Z.Session.state c.answer.new.self))
-    (c.as_slice.ensures ∙ stands.text c.if-cutter.false) c.answer.ensures)
+returns g c = λ piece holds.
+    answers_kept g.Z.Session.id (g.Z.Session.state c.args.session.now) (g.Z.Session.state c.answer.new.self) (trim piece) c.answer.result
+    (subst (λ (t : List ℕ). Answers Reads g.Z.Session.id (g.Z.Session.state c.args.session.now) t c.answer.result (g.Z.Session.state c.answer.new.self))
+    (c.as_slice.ensures ∙ holds.kept.text c.if-cutter.false) c.answer.ensures)

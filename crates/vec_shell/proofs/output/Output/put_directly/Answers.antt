@@ -1,10 +1,10 @@
-use Rattle.vec_shell.proofs.Handing.{handed_passed, puts_off}
+use Rattle.vec_shell.proofs.Buffering.{buffered_passed, puts_off}
 use Rattle.vec_shell.proofs.output.Output.put_directly.Goals as goal
 
 pub returns-then-self : goal.returns-then-self
 returns-then-self g c = record {
   adds = λ base start bytes h.
-      handed_passed c.flush.new.self _ c.args.part.now base start bytes _ _ _ _ c.if-self.true (c.flush.ensures.held c.if-self.true)
+      buffered_passed c.flush.new.self _ c.args.part.now base start bytes _ _ _ _ c.if-self.true (c.flush.ensures.held c.if-self.true)
       (c.flush.ensures.held c.if-self.true) c.takes_all-self.ensures.written c.takes_all-self.ensures.later
       (c.flush.ensures.keeps base start bytes h);
 }

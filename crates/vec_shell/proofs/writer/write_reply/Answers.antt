@@ -1,4 +1,0 @@
-use Rattle.vec_shell.proofs.writer.write_reply.Goals as goal
-
-pub returns : goal.returns
-returns g c = c.end.ensures _ _ _ (c.put_reply.ensures.adds _ _ _ (c.begin.ensures _ _))

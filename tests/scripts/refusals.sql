@@ -1,0 +1,10 @@
+CREATE VIRTUAL TABLE v USING vec0(a int8[2]);
+SELECT rowid FROM v WHERE;
+SELECT rowid FROM v WHERE a = 1 OR k = 2;
+SELECT zz FROM v;
+SELECT rowid FROM w;
+CREATE VIRTUAL TABLE v USING vec0(a int8[2]);
+INSERT INTO v(a) VALUES (vec_int8('[1,2,3]'));
+INSERT INTO v(a) VALUES ('[1,2]');
+INSERT INTO v(a) VALUES (NULL);
+INSERT INTO v(a) VALUES (vec_int8('[200,0]'));
