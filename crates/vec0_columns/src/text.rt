@@ -254,7 +254,7 @@ impl<'a> Item<'a> for Arg {
 
     ghost part = { factored_arg };
 
-    ghost formed = { has_name };
+    ghost well_formed = { has_name };
 
     ghost between = { sign (codes ",") };
 

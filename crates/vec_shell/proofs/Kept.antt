@@ -8,7 +8,7 @@ use Rattle.row_model.specs.declared.state.State.{State}
 use Rattle.row_model.specs.declared.request.Reply.{Reply}
 use Rattle.row_model.specs.Shelled.{Answers}
 use Rattle.vec_base.specs.declared.refusal.Refusal.TheVariants.{Syntax, Unsupported, Parameter, Full, BadSchema, TxnState, NoTable, TableExists, NoColumn, WrongType, VectorShape, NotNull, FixedColumn, KRange, KnnForm, Busy, OldSnapshot, Duplicate, RowidsSpent, NoSavepoint, NoSession, NoCursor, TooManyRows, StoreFault, WantOfMemory}
-use Rattle.vec_sql.specs.StatementReading.{IsRefusal, FailsBy}
+use Rattle.sql_reader.specs.StatementReading.{IsRefusal, FailsBy}
 use Rattle.vec_shell.specs.ShellTexts.{Reads}
 
 -- the kept bytes of a longer text are too many as well
