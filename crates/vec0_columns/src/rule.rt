@@ -1,3 +1,4 @@
+//! The least rule that a schema breaks.
 ghost use Rattle.std.specs.Prelude.{◌≡◌};
 ghost use Rattle.row_model.specs.Schemas.{is_key, is_vector, is_partition, is_metadata, is_auxiliary, count_of, has_some, has_column, has_twins, is_hidden_name, takes_hidden_name, is_eights, is_misfit_int8, is_misfit_bits, schema_fault};
 
