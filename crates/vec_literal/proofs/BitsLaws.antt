@@ -1,6 +1,6 @@
 -- What the crate `hex` reads is what a text of digits spells, and its errors are the faults.
 use Rattle.std.proofs.Common.{◌≡◌, ℕ, ◌+◌, ◌*◌, ◌/◌, ◌%◌, ◌<◌, length, Result, Ok, Err, Bool, true, false, inl, inr, List, [], ◌∷◌, Option, Some, None, refl, sym, ◌∙◌, ap, subst, arith, take}
-use Rattle.std.specs.Prelude.{◌⊎◌, slice_index}
+use Rattle.std.specs.Prelude.{◌⊎◌, slice_index, IfOk, IfErr}
 use Rattle.std.specs.List.{AllPass}
 use Rattle.std.specs.Result.{result_unwrap_or}
 use Rattle.std.proofs.lemmas.Bool.{cases_eq, cases_lt}
@@ -10,6 +10,8 @@ use Rattle.hex.specs.declared.error.FromHexError.{FromHexError}
 use Rattle.hex.specs.declared.error.FromHexError.TheVariants.{InvalidHexCharacter, OddLength, InvalidStringLength, OutOfMemory}
 use Rattle.hex.specs.Hex.{hex_digit_value, is_hex_digit, digit_or_error, decode_pairs, decode_of, ◌>>=◌}
 use Rattle.hex.proofs.HexLemmas.{decode_pairs-ok, decode_of-even, decode_of-ok, decode_of-odd, decode_of-err}
+use Rattle.vec_base.specs.Answers.{IsExactAnswer}
+use Rattle.vec_base.proofs.AnswerLaws.{exact_by}
 use Rattle.vec_literal.specs.declared.int8.LitFault.{LitFault}
 use Rattle.vec_literal.specs.declared.int8.LitFault.TheVariants.{Place, Range, OddHex, Memory}
 use Rattle.vec_literal.specs.Bits.{SpellsBits, IsBitsFault}
@@ -36,7 +38,7 @@ joined high low i (Some h) None r bytes e = absurd (cc e)
 joined high low i None y r bytes e = absurd (cc e)
 
 -- a digit's value is below 16
-digit_small : (c v : ℕ) → hex_digit_value c ≡ Some v → v < 16
+pub digit_small : (c v : ℕ) → hex_digit_value c ≡ Some v → v < 16
 digit_small c v h = grind (arith)
 
 -- pairs that are decoded are spelled
@@ -96,7 +98,7 @@ parity n even odd = omega arith
 all_digits : (text : List ℕ) (k : ℕ) → AllPass is_hex_digit text → k < length text → is_hex_digit (slice_index text k) ≡ false → ⊥
 all_digits text k digits within bad = let good : is_hex_digit (slice_index text k) ≡ true = All-get_or (λ c. is_hex_digit c ≡ true) text k 0 within digits in cc (sym good ∙ bad)
 
-pub fault_spells_none : (text bytes : List ℕ) (f : LitFault) → IsBitsFault text f → SpellsBits text bytes → ⊥
+fault_spells_none : (text bytes : List ℕ) (f : LitFault) → IsBitsFault text f → SpellsBits text bytes → ⊥
 fault_spells_none text bytes OddHex odd s = parity (length text) (decode_of-ok text bytes (spelled_decoded text bytes s)).0 odd
 fault_spells_none text bytes (Place k) bad s = all_digits text k (decode_of-ok text bytes (spelled_decoded text bytes s)).1 bad.1 bad.2
 fault_spells_none text bytes (Range i) bad s = bad
@@ -121,7 +123,7 @@ one_place text j k first second =
           ]
     ]
 
-pub one_fault : (text : List ℕ) (f g : LitFault) → IsBitsFault text f → IsBitsFault text g → f ≡ g
+one_fault : (text : List ℕ) (f g : LitFault) → IsBitsFault text f → IsBitsFault text g → f ≡ g
 one_fault text OddHex OddHex h k = refl
 one_fault text OddHex (Place j) h k = absurd (parity (length text) k.0 h)
 one_fault text (Place j) OddHex h k = absurd (parity (length text) h.0 k)
@@ -152,12 +154,14 @@ told_bad text e f (inr bad) same told = bad ∙ ap (λ (x : FromHexError). Err x
 pub other_told : (text : List ℕ) (e f : FromHexError) → Refused text e → e ≡ f → is_told f ≡ true → IsBitsFault text (fault_of f)
 other_told text e f r same told = decoded_fault text f (told_bad text e f r same told)
 
-pub other_spells_none : (text bytes : List ℕ) (e f : FromHexError) → Refused text e → e ≡ f → is_told f ≡ true → SpellsBits text bytes → ⊥
-other_spells_none text bytes e f r same told s = cc (sym (spelled_decoded text bytes s) ∙ told_bad text e f r same told)
-
-pub other_only : (text : List ℕ) (e f : FromHexError) (g : LitFault) → Refused text e → e ≡ f → is_told f ≡ true → IsBitsFault text g → fault_of f ≡ g
-other_only text e f g r same told h = one_fault text (fault_of f) g (other_told text e f r same told) h
-
 -- a text spells one list of bytes
-pub decoded_only : (text bytes read : List ℕ) → SpellsBits text bytes → decode_of text ≡ Ok read → read ≡ bytes
-decoded_only text bytes read s e = ap (λ (q : Result (List ℕ) FromHexError). result_unwrap_or q []) (sym e ∙ spelled_decoded text bytes s)
+one_bytes : (text bytes read : List ℕ) → SpellsBits text bytes → SpellsBits text read → bytes ≡ read
+one_bytes text bytes read h k =
+    ap (λ (q : Result (List ℕ) FromHexError). result_unwrap_or q []) (sym (spelled_decoded text bytes h) ∙ spelled_decoded text read k)
+
+-- so that an answer is exact where it is right
+pub answered : (text : List ℕ) (result : Result (List ℕ) LitFault) → IfOk result (λ bytes. SpellsBits text bytes) → IfErr result (λ fault. (fault ≡ Memory) ⊎ IsBitsFault text fault) →
+    IsExactAnswer Memory (λ bytes. SpellsBits text bytes) (λ fault. IsBitsFault text fault) result
+answered text =
+    exact_by Memory (λ bytes. SpellsBits text bytes) (λ fault. IsBitsFault text fault) (one_bytes text) (one_fault text)
+    (λ bytes fault h bad. fault_spells_none text bytes fault bad h)

@@ -1,8 +1,9 @@
 -- What text and blob literals enclose.
-use Rattle.std.proofs.Common.{◌≡◌, ℕ, suc, cond, min, ◌+◌, ◌-◌, ◌*◌, ◌/◌, ◌%◌, ◌<◌, ◌≤◌, length, take, drop, Bool, true, false, not, inl, inr, List, [], ◌∷◌, ◌++◌, Option, Some, None, refl, sym, ◌∙◌, ap, subst, arith, length-append, length-drop, append_assoc, get_or}
-use Rattle.std.specs.Prelude.{◌==◌, if◌then◌else◌, slice_range}
+use Rattle.std.proofs.Common.{◌≡◌, ℕ, suc, cond, min, ◌+◌, ◌-◌, ◌*◌, ◌/◌, ◌%◌, ◌<◌, ◌≤◌, length, take, drop, Bool, true, false, not, inl, inr, List, [], ◌∷◌, ◌++◌, Option, Some, None, Result, Ok, Err, refl, sym, ◌∙◌, ap, subst, arith, length-append, length-drop, append_assoc, get_or}
+use Rattle.std.specs.Prelude.{◌==◌, ◌&&◌, if◌then◌else◌, slice_range}
 use Rattle.std.specs.Option.{option_map, option_map_or, unwrap_or}
-use Rattle.std.specs.Char.{digit_value}
+use Rattle.std.specs.Result.{result_err}
+use Rattle.std.specs.Char.{digit_value, is_ascii_hexdigit}
 use Rattle.std.specs.Str.{IsUtf8, is_utf8}
 use Rattle.std.proofs.lemmas.Bool.Decides.{nat_tests}
 use Rattle.std.proofs.lemmas.Bool.{and_parts, and_from, cond-true, cond-false, cases_Bool, cases_lt, eqb-true, not-true}
@@ -11,8 +12,12 @@ use Rattle.std.proofs.lemmas.Str.{IsUtf8-from_is_utf8}
 use Rattle.std.specs.List.{list_all, prefix_len}
 use Rattle.vec_literal.specs.inner.Stretches.{is_plain}
 use Rattle.hex.specs.Hex.{hex_digit_value}
-use Rattle.vec_literal.specs.Bits.{SpellsBits}
+use Rattle.vec_literal.specs.Bits.{SpellsBits, IsBitsFault}
 use Rattle.vec_literal.specs.Int8.{SpellsInt8}
+use Rattle.vec_base.specs.Answers.{IsExactAnswer, Answers as Given}
+use Rattle.vec_literal.specs.declared.int8.LitFault.{LitFault}
+use Rattle.vec_literal.specs.declared.int8.LitFault.TheVariants.{Memory}
+use Rattle.vec_literal.proofs.BitsLaws.{digit_small}
 use Rattle.vec_literal.proofs.Int8Laws.{no_quote}
 use Rattle.vec_literal.specs.Tokens.{unquoted, enclosed, is_text_literal, is_hex_to_quote, begins_blob, is_blob_literal}
 use Rattle.vec_literal.specs.LiteralValues.{text_value, quoted_bytes, undoubled, paired_bytes, blob_value}
@@ -115,6 +120,14 @@ quoted_undoubled literal h =
 
 -- ---- blob literals
 
+abbrev is_memory : LitFault → Bool
+is_memory Memory = true
+is_memory _ = false
+
+starved_only : (result : Result (List ℕ) LitFault) (fault : LitFault) (bytes : List ℕ) → Given Memory result bytes → result ≡ Err fault → fault ≡ Memory
+starved_only result fault bytes (inl read) refused = absurd (cc (sym read ∙ refused))
+starved_only result fault bytes (inr starved) refused = ap (λ (q : Result (List ℕ) LitFault). unwrap_or (result_err q) Memory) (sym refused ∙ starved)
+
 digit_same : (c v : ℕ) → hex_digit_value c ≡ Some v → digit_value c ≡ v
 digit_same c v h = grind (arith, nat_tests)
 
@@ -163,6 +176,37 @@ blob_parts literal h =
 
 pub blob_length : (literal : List ℕ) → is_blob_literal literal ≡ true → 3 ≤ length literal
 blob_length literal h = let p = blob_parts literal h in omega (arith, p.size)
+
+-- pairs of digits before a quote spell bytes
+digit_given : (c : ℕ) → is_ascii_hexdigit c ≡ true → (v : ℕ) × (hex_digit_value c ≡ Some v)
+digit_given c h = (digit_value c, grind (arith, nat_tests))
+
+digits_spell : (digits : List ℕ) → is_hex_to_quote (digits ++ 39 ∷ []) ≡ true → (bytes : List ℕ) × SpellsBits digits bytes
+digits_spell [] h = ([], tt)
+digits_spell (d ∷ []) h = absurd (let no : false ≡ true = (and_parts (is_ascii_hexdigit d && is_ascii_hexdigit 39) false h).1 in cc)
+digits_spell (high ∷ low ∷ digits) h =
+    let pair = and_parts _ _ h in
+    let both = and_parts _ _ pair.0 in
+    let (x, first) = digit_given high both.0 in
+    let (y, second) = digit_given low both.1 in
+    let (bytes, behind) = digits_spell digits pair.1 in
+    let few = digit_small low y second in
+    let sixteens : x ≡ (x * 16 + y) / 16 = omega (arith, few) in
+    let ones : y ≡ (x * 16 + y) % 16 = omega (arith, few) in
+    ((x * 16 + y) ∷ bytes, (first ∙ ap (λ (v : ℕ). Some v) sixteens, second ∙ ap (λ (v : ℕ). Some v) ones, behind))
+
+-- so that only want of memory can keep them from being read
+pub blob_readable : (literal : List ℕ) (result : Result (List ℕ) LitFault) (fault : LitFault) → is_blob_literal literal ≡ true →
+    IsExactAnswer Memory (λ bytes. SpellsBits (slice_range literal 2 (length literal - 1)) bytes) (λ e. IsBitsFault (slice_range literal 2 (length literal - 1)) e) result → (told : LitFault) → result ≡ Err fault → fault ≡ told → is_memory told ≡ false → ⊥
+blob_readable literal result fault h exact told refused same other =
+    let p = blob_parts literal h in
+    let size : length literal - 1 - 2 ≡ length p.digits = omega (arith, p.size) in
+    let digits : slice_range literal 2 (length literal - 1) ≡ p.digits =
+    ap (λ (n : ℕ). take n (drop 2 literal)) size ∙ (ap (λ (z : List ℕ). take (length p.digits) z) p.rest ∙ take_at p.digits (39 ∷ []) (length p.digits) refl) in
+    let (bytes, spelled) = digits_spell p.digits (ap is_hex_to_quote (sym p.rest) ∙ (and_parts _ _ h).1) in
+    let starved = starved_only result fault bytes (exact.only_value bytes (subst (λ (z : List ℕ). SpellsBits z bytes) (sym digits) spelled)) refused in
+    let no : true ≡ false = ap is_memory (sym starved ∙ same) ∙ other in
+    absurd cc
 
 pub blob_spelled : (literal bytes : List ℕ) → is_blob_literal literal ≡ true → SpellsBits (slice_range literal 2 (length literal - 1)) bytes → bytes ≡ blob_value literal
 blob_spelled literal bytes h s =

@@ -1,11 +1,13 @@
 -- An int8 literal: what the reader answers to a text, and that no byte of a literal is a quote.
 use Rattle.std.proofs.Common.{◌≡◌, ℕ, ◌+◌, ◌<◌, ◌≤◌, length, take, drop, get_or, Result, Ok, Err, eqb, true, false, not, inl, inr, List, [], ◌∷◌, ◌++◌, Option, Some, None, refl, sym, ◌∙◌, ap, subst, append_assoc, arith}
+use Rattle.std.specs.Result.{result_unwrap_or}
 use Rattle.std.specs.Prelude.{ℤ, pos, ◌-ℤ◌, ◌⊎◌, ◌==◌, IfOk, IfErr}
 use Rattle.std.specs.List.{list_all}
 use Rattle.std.specs.Option.{option_and_then}
 use Rattle.std.proofs.lemmas.Bool.{eqb-true, and_from, not_from_false, cases_Bool, cases_lt}
 use Rattle.std.proofs.lemmas.List.{append-nil, at_drop_more, take-append-drop, take_all, take_more, take-take, get_or-take, length-take-le}
-use Rattle.vec_literal.specs.Faults.{ReadsAs, FaultsAs, IsInt8Fault}
+use Rattle.vec_base.specs.Answers.{IsExactAnswer, Answers as Given, Refuses}
+use Rattle.vec_literal.specs.Faults.{IsInt8Fault}
 use Rattle.vec_literal.specs.Int8.{SpellsList, SpellsInt8, SpellsNumber, IsInForm, CanGoOn, IsLongestStart}
 use Rattle.vec_literal.specs.declared.int8.Stage.{Stage}
 use Rattle.vec_literal.specs.declared.int8.Stage.TheVariants.{Start, Opened, Comma, Minus, Digits, Between, Closed}
@@ -179,15 +181,12 @@ one_longest text n m h k =
     let more = h.longest m k.within k.goes_on in
     omega (arith, less, more)
 
--- the answer tells what the text is, and all that it is
-pub record Answers (text : List ℕ) (result : Result (List ℕ) LitFault) : Type 0 where
-  pub found : IfOk result (λ v. SpellsInt8 text v)
-  pub only : (v : List ℕ) → SpellsInt8 text v → ReadsAs result v
-  pub fault : IfErr result (λ f. (f ≡ Memory) ⊎ IsInt8Fault text f)
-  pub only_fault : (f : LitFault) → IsInt8Fault text f → FaultsAs result f
+-- what the text spells or its fault is answered, and nothing else
+abbrev pub Answers : List ℕ → Result (List ℕ) LitFault → Type 0
+Answers text result = IsExactAnswer Memory (λ vector. SpellsInt8 text vector) (λ fault. IsInt8Fault text fault) result
 
 -- a text that is not in the form
-place_only : (text : List ℕ) (n : ℕ) → (IsInForm text → ⊥) → IsLongestStart text n → (f : LitFault) → IsInt8Fault text f → FaultsAs (Err (Place n)) f
+place_only : (text : List ℕ) (n : ℕ) → (IsInForm text → ⊥) → IsLongestStart text n → (f : LitFault) → IsInt8Fault text f → Refuses {A = List ℕ} Memory (Err (Place n)) f
 place_only text n out h (Place m) k = inl (ap (λ (i : ℕ). Err (Place i)) (one_longest text n m h k.1))
 place_only text n out h (Range i) k = absurd (out (k.0, k.1))
 place_only text n out h OddHex k = absurd k
@@ -195,10 +194,10 @@ place_only text n out h Memory k = absurd k
 
 place_answers : (text : List ℕ) (n : ℕ) → (IsInForm text → ⊥) → IsLongestStart text n → Answers text (Err (Place n))
 place_answers text n out h = record {
-  found = tt;
-  only = λ v s. out (s.elements, s.list);
-  fault = inr (out, h);
-  only_fault = place_only text n out h;
+  value = tt;
+  error = inr (out, h);
+  only_value = λ v s. absurd (out (s.elements, s.list));
+  only_error = place_only text n out h;
 }
 
 pub refused_answers : (text : List ℕ) (r : Reader) (n : ℕ) → n < length text → Reads (take n text) r → read_byte r (get_or text n 0) ≡ no_reader → Answers text (Err (Place n))
@@ -207,7 +206,7 @@ refused_answers text r n h e none =
     place_answers text n (λ form. let most = longest.longest (length text) (omega arith) (in_form_goes_on text form) in omega (arith, most, h)) longest
 
 -- a text in the form with an element that does not fit
-range_only : (text v : List ℕ) (i : ℕ) (zs : List ℤ) → Reads text (record { stage = Closed; vector = v; misfit = Some i }) → SpellsList text zs → (f : LitFault) → IsInt8Fault text f → FaultsAs (Err (Range i)) f
+range_only : (text v : List ℕ) (i : ℕ) (zs : List ℤ) → Reads text (record { stage = Closed; vector = v; misfit = Some i }) → SpellsList text zs → (f : LitFault) → IsInt8Fault text f → Refuses {A = List ℕ} Memory (Err (Range i)) f
 range_only text v i zs e l (Place m) k = absurd (k.0 (zs, l))
 range_only text v i zs e l (Range j) (ys, list, first) = inl (ap (λ (n : ℕ). Err (Range n)) (one_misfit ys i j (kept_of text ys _ list e).1 first))
 range_only text v i zs e l OddHex k = absurd k
@@ -217,14 +216,14 @@ range_answers : (text v : List ℕ) (i : ℕ) → Reads text (record { stage = C
 range_answers text v i e =
     let (zs, stands, kept) = read_stands text _ e in
     record {
-      found = tt;
-      only = λ w s. misfit_not_all s.elements i (kept_of text s.elements _ s.list e).1 s.fit;
-      fault = inr (zs, stands, kept);
-      only_fault = range_only text v i zs e stands;
+      value = tt;
+      error = inr (zs, stands, kept);
+      only_value = λ w s. absurd (misfit_not_all s.elements i (kept_of text s.elements _ s.list e).1 s.fit);
+      only_error = range_only text v i zs e stands;
     }
 
 -- a text that spells a vector
-ok_only : (text v : List ℕ) (zs : List ℤ) → Reads text (reader_at Closed v) → SpellsList text zs → (f : LitFault) → IsInt8Fault text f → FaultsAs (Ok v) f
+ok_only : (text v : List ℕ) (zs : List ℤ) → Reads text (reader_at Closed v) → SpellsList text zs → (f : LitFault) → IsInt8Fault text f → Refuses {A = List ℕ} Memory (Ok v) f
 ok_only text v zs e l (Place m) k = absurd (k.0 (zs, l))
 ok_only text v zs e l (Range j) (ys, list, first) = absurd (misfit_not_all ys j first (kept_of text ys _ list e).1.0)
 ok_only text v zs e l OddHex k = absurd k
@@ -234,10 +233,10 @@ pub ok_answers : (text v : List ℕ) → Reads text (reader_at Closed v) → Ans
 ok_answers text v e =
     let (zs, stands, kept) = read_stands text _ e in
     record {
-      found = record { elements = zs; list = stands; fit = kept.0; bytes = kept.1 };
-      only = λ w s. (kept_of text s.elements _ s.list e).1.1 ∙ sym s.bytes;
-      fault = tt;
-      only_fault = ok_only text v zs e stands;
+      value = record { elements = zs; list = stands; fit = kept.0; bytes = kept.1 };
+      error = tt;
+      only_value = λ w s. inl (ap Ok ((kept_of text s.elements _ s.list e).1.1 ∙ sym s.bytes));
+      only_error = ok_only text v zs e stands;
     }
 
 -- a text that ends before its list is closed
@@ -265,13 +264,21 @@ whole_answers text r i result h e k =
 
 -- the fault of an answer that is one
 pub fault_of_answer : (text : List ℕ) (f : LitFault) → Answers text (Err f) → (f ≡ Memory → ⊥) → IsInt8Fault text f
-fault_of_answer text f h other = elim h.fault [ inl memory ↦ absurd (other memory) | inr told ↦ told ]
+fault_of_answer text f h other = elim h.error [ inl memory ↦ absurd (other memory) | inr told ↦ told ]
 
 -- no text spells two vectors
 
+answered_vector : (read vector : List ℕ) → Given Memory (Ok read) vector → read ≡ vector
+answered_vector read vector (inl same) = ap (λ (q : Result (List ℕ) LitFault). result_unwrap_or q []) same
+answered_vector read vector (inr other) = absurd (cc other)
+
+misfit_gives_none : (index : ℕ) (vector : List ℕ) → Given {A = List ℕ} Memory (Err (Range index)) vector → ⊥
+misfit_gives_none index vector (inl other) = cc other
+misfit_gives_none index vector (inr other) = cc other
+
 one_closed : (m : Option ℕ) (read text v w : List ℕ) → Reads text (record { stage = Closed; vector = read; misfit = m }) → SpellsInt8 text v → SpellsInt8 text w → v ≡ w
-one_closed None read text v w e s t = let a = ok_answers text read e in sym (a.only v s) ∙ a.only w t
-one_closed (Some i) read text v w e s t = absurd ((range_answers text read i e).only v s)
+one_closed None read text v w e s t = let a = ok_answers text read e in sym (answered_vector read v (a.only_value v s)) ∙ answered_vector read w (a.only_value w t)
+one_closed (Some i) read text v w e s t = absurd (misfit_gives_none i v ((range_answers text read i e).only_value v s))
 
 pub one_vector : (text v w : List ℕ) → SpellsInt8 text v → SpellsInt8 text w → v ≡ w
 one_vector text v w s t =

@@ -1,23 +1,10 @@
--- What a call that reads a literal may answer, and the fault of a text that spells no int8 vector.
-use Rattle.std.specs.Prelude.{◌≡◌, ◌⊎◌, ℕ, ℤ, List, Ok, Err, ⊤}
-use Rattle.std.specs.declared.result.Result.{Result}
+-- The fault of a text that spells no int8 vector.
+use Rattle.std.specs.Prelude.{ℕ, ℤ, List}
 use Rattle.vec_literal.specs.declared.int8.LitFault.{LitFault}
 use Rattle.vec_literal.specs.declared.int8.LitFault.TheVariants.{Place, Range, OddHex, Memory}
 use Rattle.vec_literal.specs.Int8.{SpellsList, IsInForm, IsLongestStart, IsFirstMisfit}
 
--- the vector, or want of memory
-abbrev pub ReadsAs : Result (List ℕ) LitFault → List ℕ → Type 0
-ReadsAs (Ok read) vector = read ≡ vector
-ReadsAs (Err (Place place)) vector = ⊥
-ReadsAs (Err (Range index)) vector = ⊥
-ReadsAs (Err OddHex) vector = ⊥
-ReadsAs (Err Memory) vector = ⊤
-
--- the fault, or want of memory
-abbrev pub FaultsAs : Result (List ℕ) LitFault → LitFault → Type 0
-FaultsAs result fault = (result ≡ Err fault) ⊎ (result ≡ Err Memory)
-
--- The fault of a text that spells no int8 vector. Not in the form: how much of it can go on. In the form: the index of the
+-- Not in the form: how much of it can go on. In the form: the index of the
 -- first element that is outside the range.
 abbrev pub IsInt8Fault : List ℕ → LitFault → Type 0
 IsInt8Fault text (Place n) = (IsInForm text → ⊥) × IsLongestStart text n

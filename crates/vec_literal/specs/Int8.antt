@@ -5,6 +5,16 @@ use Rattle.std.specs.Int.{w8, cast_unsigned}
 use Rattle.std.specs.List.{list_all}
 use Rattle.std.specs.Str.Parse.{digits_value}
 
+-- the bytes `[` and `]`, between which the elements stand
+abbrev pub opening : ℕ
+opening = 91
+abbrev pub closing : ℕ
+closing = 93
+
+-- the greatest element; the least is one further from zero
+abbrev pub greatest : ℕ
+greatest = 127
+
 -- white space of JSON: space, tab, line feed, carriage return
 abbrev pub is_space : ℕ → Bool
 is_space b = b == 32 || b == 9 || b == 10 || b == 13
@@ -50,14 +60,14 @@ pub record SpellsList (text : List ℕ) (zs : List ℤ) : Type 0 where
   pub before : List ℕ
   pub inside : List ℕ
   pub after : List ℕ
-  pub whole : text ≡ before ++ 91 ∷ (inside ++ 93 ∷ after)
+  pub whole : text ≡ before ++ opening ∷ (inside ++ closing ∷ after)
   pub blank_before : IsBlank before
   pub elements : SpellsInside inside zs
   pub blank_after : IsBlank after
 
 -- the number is one of a byte's from -128 to 127
 abbrev pub IsElement : ℤ → Type 0
-IsElement z = (negsuc 127 ≤ℤ z) × (z ≤ℤ pos 127)
+IsElement z = (negsuc greatest ≤ℤ z) × (z ≤ℤ pos greatest)
 
 -- The text spells the vector: its elements fit, and each byte of the vector stands for one.
 pub record SpellsInt8 (text vector : List ℕ) : Type 0 where

@@ -4,6 +4,7 @@ use Rattle.std.specs.List.{list_all, list_any}
 use Rattle.std.specs.Option.{option_map, option_map_or}
 use Rattle.std.specs.Char.{is_ascii_alphabetic, is_ascii_alphanumeric, is_ascii_digit, is_ascii_hexdigit}
 use Rattle.std.specs.Str.{is_utf8}
+use Rattle.vec_base.specs.Words.{underscore}
 use Rattle.vec_literal.specs.declared.token.TokenSort.{TokenSort}
 use Rattle.vec_literal.specs.declared.token.TokenSort.TheVariants as sorts
 use Rattle.vec_literal.specs.declared.token.Token.{Token as Found}
@@ -16,10 +17,10 @@ is_white b = b == 32 || b == 9 || b == 10 || b == 12 || b == 13
 
 -- a letter or `_`
 abbrev pub is_letter : ℕ → Bool
-is_letter b = is_ascii_alphabetic b || b == 95
+is_letter b = is_ascii_alphabetic b || b == underscore
 
 abbrev pub is_word_byte : ℕ → Bool
-is_word_byte b = is_ascii_alphanumeric b || b == 95
+is_word_byte b = is_ascii_alphanumeric b || b == underscore
 
 -- a letter or `_`, then letters, digits and `_`
 abbrev pub is_word_text : List ℕ → Bool

@@ -1,9 +1,8 @@
 ghost use Rattle.std.specs.Prelude.{◌≡◌, ◌⊎◌, ℕ, List, IfOk, IfErr};
 ghost use Rattle.hex.specs.Hex.{encode_upper};
-ghost use Rattle.vec_literal.specs.declared.int8.LitFault.{LitFault as Fault};
+ghost use Rattle.vec_base.specs.Answers.{IsExactAnswer};
 ghost use Rattle.vec_literal.specs.declared.int8.LitFault.TheVariants.{Memory as WantOfMemory};
 ghost use Rattle.vec_literal.specs.Bits.{SpellsBits, IsBitsFault};
-ghost use Rattle.vec_literal.specs.Faults.{ReadsAs, FaultsAs};
 
 use crate::int8::LitFault;
 use hex::FromHexError;
@@ -13,10 +12,7 @@ use vec_base::{Bytes, Memory, Txt};
 /// The bytes that the text spells, two hexadecimal digits of either case for each, the higher first.
 /// `OddHex` where the length of the text is odd, else `Place` with the index of the first byte that is no digit.
 pub fn read_bits(alloc: Global, text: &[u8]) -> Result<Bytes, LitFault>
-    ensures found { IfOk result (λ vector. SpellsBits text.now vector) }
-    ensures only { (vector : List ℕ) → SpellsBits text.now vector → ReadsAs result vector }
-    ensures fault { IfErr result (λ fault. (fault ≡ WantOfMemory) ⊎ IsBitsFault text.now fault) }
-    ensures only_fault { (fault : Fault) → IsBitsFault text.now fault → FaultsAs result fault }
+    ensures exact { IsExactAnswer WantOfMemory (λ vector. SpellsBits text.now vector) (λ fault. IsBitsFault text.now fault) result }
 {
     match hex::decode(alloc, text) {
         Ok(bytes) => Ok(Bytes::from_vec(bytes)),

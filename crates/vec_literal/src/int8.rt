@@ -1,9 +1,9 @@
 ghost use Rattle.std.specs.Prelude.{◌≡◌, ◌⊎◌, ℕ, [], List, IfOk, IfErr, OnOk};
 ghost use Rattle.vec_literal.specs.Int8.{SpellsInt8, is_space};
 ghost use Rattle.vec_text.specs.ValueTexts.{int8_text};
-ghost use Rattle.vec_literal.specs.declared.int8.LitFault.{LitFault as Fault};
+ghost use Rattle.vec_base.specs.Answers.{IsExactAnswer};
 ghost use Rattle.vec_literal.specs.declared.int8.LitFault.TheVariants.{Memory as WantOfMemory};
-ghost use Rattle.vec_literal.specs.Faults.{ReadsAs, FaultsAs, IsInt8Fault};
+ghost use Rattle.vec_literal.specs.Faults.{IsInt8Fault};
 ghost use Rattle.vec_literal.specs.inner.Int8Reading.{number_start, first_digit, after_element};
 
 use crate::usual_int8::read_usual;
@@ -44,10 +44,7 @@ impl From<Memory> for LitFault {
 /// The vector that the text spells, one byte for each element.
 /// `Place` where the text is not in the form, whatever its numbers, and `Range` where only a number is too large.
 pub fn read_int8(alloc: Global, text: &[u8]) -> Result<Bytes, LitFault>
-    ensures found { IfOk result (λ vector. SpellsInt8 text.now vector) }
-    ensures only { (vector : List ℕ) → SpellsInt8 text.now vector → ReadsAs result vector }
-    ensures fault { IfErr result (λ fault. (fault ≡ WantOfMemory) ⊎ IsInt8Fault text.now fault) }
-    ensures only_fault { (fault : Fault) → IsInt8Fault text.now fault → FaultsAs result fault }
+    ensures exact { IsExactAnswer WantOfMemory (λ vector. SpellsInt8 text.now vector) (λ fault. IsInt8Fault text.now fault) result }
 {
     if let Some(vector) = read_usual(alloc, text)? {
         return Ok(Bytes::from_vec(vector));
@@ -57,10 +54,7 @@ pub fn read_int8(alloc: Global, text: &[u8]) -> Result<Bytes, LitFault>
 
 /// The same, byte by byte, for texts in any form.
 fn read_exactly(alloc: Global, text: &[u8]) -> Result<Bytes, LitFault>
-    ensures found { IfOk result (λ vector. SpellsInt8 text.now vector) }
-    ensures only { (vector : List ℕ) → SpellsInt8 text.now vector → ReadsAs result vector }
-    ensures fault { IfErr result (λ fault. (fault ≡ WantOfMemory) ⊎ IsInt8Fault text.now fault) }
-    ensures only_fault { (fault : Fault) → IsInt8Fault text.now fault → FaultsAs result fault }
+    ensures { IsExactAnswer WantOfMemory (λ vector. SpellsInt8 text.now vector) (λ fault. IsInt8Fault text.now fault) result }
 {
     let mut reader = Reader::new(alloc);
     for (place, byte) in text.iter().enumerate() {
@@ -281,7 +275,13 @@ pub(crate) struct Number {
 }
 
 /// A magnitude that fits no element, with any sign.
-const TOO_LARGE: u16 = 1000;
+pub(crate) const TOO_LARGE: u16 = 1000;
+
+/// The greatest element.
+const GREATEST: u16 = i8::MAX as u16;
+
+/// How many values a byte has.
+const BYTES: u16 = 1 << 8;
 
 impl Number {
     ghost use Rattle.std.specs.Prelude.{IsTrue};
@@ -293,12 +293,12 @@ impl Number {
         ensures { result ≡ byte_of self }
     {
         if self.negative {
-            if self.magnitude <= 128 {
-                Some(((256 - self.magnitude) % 256) as u8)
+            if self.magnitude <= GREATEST + 1 {
+                Some(((BYTES - self.magnitude) % BYTES) as u8)
             } else {
                 None
             }
-        } else if self.magnitude <= 127 {
+        } else if self.magnitude <= GREATEST {
             Some(self.magnitude as u8)
         } else {
             None

@@ -3,6 +3,7 @@ ghost use Rattle.vec_literal.specs.Tokens.{is_text_literal, is_blob_literal};
 ghost use Rattle.vec_literal.specs.LiteralValues.{text_value, quoted_bytes, undoubled, blob_value};
 
 use crate::bits::read_bits;
+use crate::int8::LitFault;
 use crate::quote::before_quote;
 use std::alloc::{AllocError, Global};
 use vec_base::{Bytes, Memory, Txt};
@@ -24,7 +25,7 @@ pub fn read_text(alloc: Global, literal: &[u8]) -> Result<Txt, Memory>
     let bytes = undoubled(alloc, between_quotes(literal))?;
     match String::from_utf8(bytes) {
         Ok(text) => Ok(Txt::from_string(text)),
-        Err(_) => Err(Memory),
+        Err(_) => unreachable!(),
     }
 }
 
@@ -35,7 +36,10 @@ pub fn read_blob(alloc: Global, literal: &[u8]) -> Result<Bytes, Memory>
 {
     match read_bits(alloc, &literal[2..literal.len() - 1]) {
         Ok(bytes) => Ok(bytes),
-        Err(_) => Err(Memory),
+        Err(LitFault::Memory) => Err(Memory),
+        Err(LitFault::Place(_)) => unreachable!(),
+        Err(LitFault::Range(_)) => unreachable!(),
+        Err(LitFault::OddHex) => unreachable!(),
     }
 }
 

@@ -4,14 +4,14 @@ ghost use Rattle.std.specs.Prelude.{◌≡◌, ℕ, ◌+◌, ◌≤◌, ◌<◌,
 ghost use Rattle.std.specs.Char.{is_ascii_digit};
 ghost use Rattle.vec_literal.specs.inner.Int8Reading.{ReadsDigits, ReadsNumber, ReadsElement, ReadsWhole};
 
-use crate::int8::Number;
+use crate::int8::{Number, TOO_LARGE};
 use std::alloc::{AllocError, Global};
 
 /// More bytes than an element and the mark behind it have.
 const WINDOW: usize = 6;
 
 /// How many bytes can be counted in one byte.
-const COUNTED: usize = 255;
+const COUNTED: usize = u8::MAX as usize;
 
 /// The vector that a text in the usual form spells, `None` for any other text.
 pub(crate) fn read_usual(alloc: Global, text: &[u8]) -> Result<Option<Vec<u8>>, AllocError>
@@ -45,7 +45,7 @@ fn commas_in(text: &[u8]) -> usize {
 
 /// How many commas stand in a text of few bytes.
 fn few_commas_in(text: &[u8]) -> u8
-    requires { length text.now ≤ 255 }
+    requires { length text.now ≤ COUNTED }
 {
     let mut commas = 0u8;
     for byte in text {
@@ -150,7 +150,7 @@ fn digits_at(text: &[u8], from: usize, negative: bool) -> Option<ReadNumber>
 impl ReadNumber {
     #[inline(always)]
     fn new(negative: bool, magnitude: u32, length: usize) -> ReadNumber
-        requires { magnitude < 1000 }
+        requires { magnitude < TOO_LARGE }
         ensures { result ≡ record { number = record { negative = negative; magnitude = magnitude }; length = length } }
     {
         ReadNumber {

@@ -1,12 +1,13 @@
 -- Reading an int8 literal byte by byte. Only clauses of private functions speak of it: proofs/Int8Sound.antt and
 -- proofs/Int8Complete.antt show that it reads just the texts in the form, and proofs/Int8Laws.antt that it answers with
 -- just the vectors that SpellsInt8 allows and the faults that IsInt8Fault allows.
-use Rattle.std.specs.Prelude.{◌≡◌, MatchBool, ℕ, ◌+◌, ◌-◌, ◌*◌, ◌%◌, Bool, true, false, if◌then◌else◌, ◌==◌, ◌<◌, ◌≤◌, nat_lt, nat_le, take, List, [], ◌∷◌, ◌++◌, length, Option, Some, None, Result, Ok, Err}
+use Rattle.std.specs.Prelude.{◌≡◌, MatchBool, ℕ, suc, ◌+◌, ◌-◌, ◌*◌, ◌%◌, Bool, true, false, if◌then◌else◌, ◌==◌, ◌<◌, ◌≤◌, nat_lt, nat_le, take, List, [], ◌∷◌, ◌++◌, length, Option, Some, None, Result, Ok, Err}
 use Rattle.std.specs.Option.{option_map, option_and_then}
 use Rattle.std.specs.Char.{is_ascii_digit}
-use Rattle.vec_literal.specs.Int8.{is_space}
+use Rattle.vec_literal.specs.Int8.{is_space, opening, closing, greatest}
 use Rattle.vec_literal.specs.declared.int8.LitFault.{LitFault}
 use Rattle.vec_literal.specs.declared.int8.LitFault.TheVariants.{Place, Range}
+use Rattle.vec_literal.specs.declared.int8.TheConstants.{BYTES, TOO_LARGE}
 use Rattle.vec_literal.specs.declared.int8.Number.{Number}
 use Rattle.vec_literal.specs.declared.int8.Stage.{Stage}
 use Rattle.vec_literal.specs.declared.int8.Stage.TheVariants.{Start, Opened, Comma, Minus, Digits, Between, Closed}
@@ -16,12 +17,12 @@ use Rattle.vec_literal.specs.declared.int8.Reader.{Reader}
 abbrev pub byte_of : Number → Option ℕ
 byte_of n =
     if n.negative
-    then (if nat_le n.magnitude 128 then Some ((256 - n.magnitude) % 256) else None)
-    else (if nat_le n.magnitude 127 then Some n.magnitude else None)
+    then (if nat_le n.magnitude (suc greatest) then Some ((BYTES - n.magnitude) % BYTES) else None)
+    else (if nat_le n.magnitude greatest then Some n.magnitude else None)
 
--- one digit more; a magnitude of 1000 and more is too large anyhow and stays
+-- one digit more; from `TOO_LARGE` on a magnitude is that of no element and stays
 abbrev pub more_digits : ℕ → ℕ → ℕ
-more_digits m b = if nat_lt m 1000 then m * 10 + (b - 48) else m
+more_digits m b = if nat_lt m TOO_LARGE then m * 10 + (b - 48) else m
 
 -- a digit that begins a number; it may be a zero
 abbrev pub first_digit : Bool → ℕ → Option Stage
@@ -39,7 +40,7 @@ number_start b = if b == 45 then Some Minus else first_digit false b
 
 -- a mark that ends an element
 abbrev pub after_element : ℕ → Option Stage
-after_element b = if b == 44 then Some Comma else if b == 93 then Some Closed else None
+after_element b = if b == 44 then Some Comma else if b == closing then Some Closed else None
 
 -- white space: it ends a number, and may not follow its sign
 abbrev pub after_space : Stage → Option Stage
@@ -53,8 +54,8 @@ after_space Closed = Some Closed
 
 -- any other byte
 abbrev pub after_mark : Stage → ℕ → Option Stage
-after_mark Start b = if b == 91 then Some Opened else None
-after_mark Opened b = if b == 93 then Some Closed else number_start b
+after_mark Start b = if b == opening then Some Opened else None
+after_mark Opened b = if b == closing then Some Closed else number_start b
 after_mark Comma b = number_start b
 after_mark Minus b = first_digit true b
 after_mark (Digits n) b = if is_ascii_digit b then next_digit n b else after_element b
