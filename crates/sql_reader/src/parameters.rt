@@ -7,8 +7,8 @@ ghost use Rattle.sql_reader.specs.inner.ParameterSummaries.{SummarizesMore, faul
 ghost use Rattle.sql_reader.specs.StatementReading.{IsParameterFault, ParametersFit, Takes, parameter};
 
 use crate::given::{GivenAssign, GivenSelect, GivenStatement, GivenTerm};
-use crate::part_meaning::summarize_limit;
 use crate::part::summarize_each;
+use crate::part_meaning::summarize_limit;
 use crate::vector::{int8_of, parameter};
 use std::alloc::Global;
 use vec_base::{MOST_PARAMETERS, Memory, Value};
@@ -133,11 +133,21 @@ fn summarize_statement(
     ensures { IfOk result (λ new. SummarizesMore params.now (ordered_uses given.now) summary new) }
 {
     match given {
-        GivenStatement::Insert(_, _, groups) => summarize_each(alloc, summary, groups.as_slice(), params),
+        GivenStatement::Insert(_, _, groups) => summarize_each(
+            alloc,
+            summary,
+            groups.as_slice(),
+            params,
+        ),
         GivenStatement::Update(_, sets, terms) => {
             summarize_update(alloc, summary, sets.as_slice(), terms.as_slice(), params)
         }
-        GivenStatement::Delete(_, terms) => summarize_each(alloc, summary, terms.as_slice(), params),
+        GivenStatement::Delete(_, terms) => summarize_each(
+            alloc,
+            summary,
+            terms.as_slice(),
+            params,
+        ),
         GivenStatement::Select(select) => summarize_select(alloc, summary, select, params),
         GivenStatement::Explain(select) => summarize_select(alloc, summary, select, params),
         _ => Ok(summary),

@@ -27,7 +27,12 @@ pub(crate) trait GivenPart: Drop + Sized {
     ghost means: { Seq Spelled → Self → Self.Meaning → Type 0 };
 
     /// The summary with the parameters of the part.
-    fn summarize(&self, alloc: Global, summary: UseSummary, params: &[Value]) -> Result<UseSummary, Memory>
+    fn summarize(
+        &self,
+        alloc: Global,
+        summary: UseSummary,
+        params: &[Value],
+    ) -> Result<UseSummary, Memory>
         ensures { IfOk result (λ new. SummarizesMore params.now (uses self.now) summary new) };
 
     /// What the part means, where an INSERT has so many names. A parameter that is not taken counts as NULL.

@@ -65,7 +65,12 @@ impl<'a> GivenPart for Given<'a> {
     ghost means = { MeansValue };
 
     #[tactic(auto, using(crate::proofs::ParameterLaws::no_uses))]
-    fn summarize(&self, alloc: Global, summary: UseSummary, params: &[Value]) -> Result<UseSummary, Memory> {
+    fn summarize(
+        &self,
+        alloc: Global,
+        summary: UseSummary,
+        params: &[Value],
+    ) -> Result<UseSummary, Memory> {
         match self {
             Given::Value(_) => Ok(summary),
             Given::Parameter(number) => Ok(summary.with_use(*number, true)),
@@ -135,7 +140,12 @@ impl<'a> GivenPart for GivenTerm<'a> {
 
     ghost means = { MeansTerm };
 
-    fn summarize(&self, alloc: Global, summary: UseSummary, params: &[Value]) -> Result<UseSummary, Memory> {
+    fn summarize(
+        &self,
+        alloc: Global,
+        summary: UseSummary,
+        params: &[Value],
+    ) -> Result<UseSummary, Memory> {
         summarize_test(alloc, summary, &self.test, params)
     }
 
@@ -158,7 +168,12 @@ impl<'a> GivenPart for GivenAssign<'a> {
 
     ghost means = { MeansAssign };
 
-    fn summarize(&self, alloc: Global, summary: UseSummary, params: &[Value]) -> Result<UseSummary, Memory> {
+    fn summarize(
+        &self,
+        alloc: Global,
+        summary: UseSummary,
+        params: &[Value],
+    ) -> Result<UseSummary, Memory> {
         self.value.summarize(alloc, summary, params)
     }
 
@@ -182,7 +197,12 @@ impl<'a> GivenPart for Group<'a> {
 
     ghost means = { MeansGroup };
 
-    fn summarize(&self, alloc: Global, summary: UseSummary, params: &[Value]) -> Result<UseSummary, Memory> {
+    fn summarize(
+        &self,
+        alloc: Global,
+        summary: UseSummary,
+        params: &[Value],
+    ) -> Result<UseSummary, Memory> {
         summarize_each(alloc, summary, self.values.as_slice(), params)
     }
 

@@ -11,8 +11,8 @@ ghost use Rattle.sql_reader.specs.StatementReading.{MeansDelete, MeansInsert, Me
 
 use crate::flaw::Flaw;
 use crate::given::{GivenAssign, GivenSelect, GivenStatement, GivenTerm, Group};
-use crate::part_meaning::limit_of;
 use crate::part::meanings;
+use crate::part_meaning::limit_of;
 use row_model::{Delete, Insert, Select, Statement, Update};
 use std::alloc::Global;
 use vec_base::{List, Refusal, Txt, Value};

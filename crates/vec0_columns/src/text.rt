@@ -1,4 +1,4 @@
-//! The parts of a column text.
+//! Reading the parts of a column text.
 ghost use Rattle.std.specs.Prelude.{◌≡◌, true, IfOk};
 ghost use Rattle.std.specs.List.{list_all};
 ghost use Rattle.grammar.specs.inner.ReaderResults.{rest_of, Gives};
