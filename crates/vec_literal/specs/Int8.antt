@@ -8,6 +8,7 @@ use Rattle.std.specs.Str.Parse.{digits_value}
 -- the bytes `[` and `]`, between which the elements stand
 abbrev pub opening : ℕ
 opening = 91
+
 abbrev pub closing : ℕ
 closing = 93
 

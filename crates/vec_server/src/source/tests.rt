@@ -56,6 +56,9 @@ fn counts_what_fails(rt: HostRuntime) {
         (ReadOutcome::End, &[], 1),
     ];
     reads_abc(&rt, 0, &short);
-    let full = [(ReadOutcome::Took(1), &b"a\0"[..], 0), (ReadOutcome::Failed, &[], 1)];
+    let full = [
+        (ReadOutcome::Took(1), &b"a\0"[..], 0),
+        (ReadOutcome::Failed, &[], 1),
+    ];
     reads_abc(&rt, MOST - 1, &full);
 }
