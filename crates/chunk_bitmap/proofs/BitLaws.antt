@@ -12,7 +12,7 @@ use Rattle.std.proofs.lemmas.Simd.{get_or-zip2, length-zip2}
 use Rattle.std.proofs.lemmas.Bool.{cases_eq, cases_lt}
 use Rattle.std.proofs.lemmas.List.{get_or-set_same, get_or-set_other, length-drop, get_or-drop, get_or_append_left, get_or-append-add, get_or-replicate, length-replicate}
 use Rattle.std.proofs.lemmas.List.FromFn.{length-map-range_with_len, get_or-map-range_with_len}
-use Rattle.chunk_bitmap.specs.Bits.{is_set_in, bits_of, first_clear_of, next_set_of}
+use Rattle.chunk_bitmap.specs.BitsOfBytes.{is_set_in, bits_of, first_clear_of, next_set_of}
 
 pub length_bits : (bytes : List ℕ) → length (bits_of bytes) ≡ 8 * length bytes
 length_bits bytes = length-map-range_with_len (is_set_in bytes) 0 (8 * length bytes)

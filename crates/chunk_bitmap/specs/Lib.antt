@@ -1,2 +1,2 @@
--- Bits: bytes as lists of truth values.
-pub mod Bits
+-- BitsOfBytes: bytes as lists of truth values.
+pub mod BitsOfBytes

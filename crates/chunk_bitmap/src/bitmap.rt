@@ -2,7 +2,7 @@
 ghost use Rattle.std.specs.Prelude.{◌≡◌, ◌≤◌, ◌<◌, ◌*◌, ◌/◌, ◌%◌, ◌&&◌, Bool, true, false, length, slice_index_or, slice_set, replicate, IfOk};
 ghost use Rattle.std.specs.List.{count_by};
 ghost use Rattle.std.specs.Simd.Lanes.{zip2};
-ghost use Rattle.chunk_bitmap.specs.Bits.{bits_of, first_clear_of, next_set_of};
+ghost use Rattle.chunk_bitmap.specs.BitsOfBytes.{bits_of, first_clear_of, next_set_of};
 
 use crate::bits::{self, MOST_BYTES};
 use std::alloc::Global;
@@ -17,7 +17,7 @@ pub struct Bitmap {
 
 impl Model for Bitmap {
     ghost use Rattle.std.specs.Prelude.{◌≤◌, Bool, List as Seq, length};
-    ghost use Rattle.chunk_bitmap.specs.Bits.{bits_of};
+    ghost use Rattle.chunk_bitmap.specs.BitsOfBytes.{bits_of};
     ghost use Rattle.chunk_bitmap.specs.declared.bits.TheConstants.{MOST_BYTES};
 
     ghost Value = { Seq Bool };

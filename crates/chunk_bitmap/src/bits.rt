@@ -3,7 +3,7 @@ ghost use Rattle.std.specs.Prelude.{◌≡◌, ◌≤◌, ◌<◌, ◌*◌, ◌/
 ghost use Rattle.std.specs.Int.{bit_at};
 ghost use Rattle.std.specs.List.{count_by};
 ghost use Rattle.std.specs.Simd.Lanes.{zip2};
-ghost use Rattle.chunk_bitmap.specs.Bits.{bits_of, first_clear_of, next_set_of};
+ghost use Rattle.chunk_bitmap.specs.BitsOfBytes.{bits_of, first_clear_of, next_set_of};
 
 use vec_base::MOST_CHUNK_SIZE;
 

@@ -1,9 +1,8 @@
 //! Words that are no names, and words of forms that are not supported.
-ghost use Rattle.std.specs.Prelude.{◌≡◌, ◌<◌, ◌^◌, ◌-◌, length};
+ghost use Rattle.std.specs.Prelude.{◌≡◌, ◌<◌, length};
 ghost use Rattle.std.specs.List.{list_any, position_from};
-ghost use Rattle.grammar.specs.Grammar.{lowered};
+ghost use Rattle.grammar.specs.Grammar.{is_in_any_case, lowered};
 ghost use Rattle.vec_base.specs.Words.{is_reserved, unsupported_number};
-ghost use Rattle.grammar.specs.Grammar.{is_in_any_case};
 
 use vec_base::{RESERVED_UNSUPPORTED, STATEMENT_WORDS, UNSUPPORTED_WORDS};
 
@@ -26,9 +25,12 @@ fn is_in(words: &[&str], word: &[u8]) -> bool
     false
 }
 
+/// The most words that a number of 8 bits counts.
+const MOST_WORDS: usize = u8::MAX as usize;
+
 /// The number, from 1, of the first of the words that is the word in any case, if one is.
 fn number_in(words: &[&str], word: &[u8]) -> Option<u8>
-    requires { length words.now < 2 ^ 8 - 1 }
+    requires { length words.now < MOST_WORDS }
     ensures { result ≡ position_from (λ known. is_in_any_case word.now known.now) 1 words.now }
 {
     let mut number = 1;

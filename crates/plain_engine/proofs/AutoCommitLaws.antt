@@ -15,7 +15,7 @@ use Rattle.row_model.specs.declared.request.Request.TheVariants.{OpenSession, Cl
 use Rattle.row_model.specs.declared.statement.Select.{Select as SelectRows}
 use Rattle.row_model.specs.Answer.{answer}
 use Rattle.row_model.specs.Limits.{over_sessions, over_session_ids}
-use Rattle.row_model.specs.Lists.{listed}
+use Rattle.row_model.specs.RefusalOrder.{listed}
 use Rattle.row_model.specs.declared.row.Named.{Named}
 use Rattle.row_model.specs.declared.schema.Schema.{Schema}
 use Rattle.row_model.specs.declared.statement.Insert.{Insert as InsertRows}

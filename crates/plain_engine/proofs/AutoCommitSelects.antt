@@ -12,7 +12,7 @@ use Rattle.plain_engine.specs.inner.AutoCommit.{idle, ExecutesInAutoCommit}
 use Rattle.row_model.specs.Answer.{answer}
 use Rattle.row_model.specs.Check.{check_select}
 use Rattle.plain_engine.specs.inner.TablePlaces.{IsTable}
-use Rattle.row_model.specs.Lists.{first, listed}
+use Rattle.row_model.specs.RefusalOrder.{first, listed}
 use Rattle.row_model.specs.Machine.{unless}
 use Rattle.row_model.specs.Step.{executed, too_many}
 use Rattle.plain_engine.proofs.ExecuteLaws.{some_none}

@@ -18,7 +18,7 @@ use Rattle.row_model.specs.Change.{other_tables, table_named, with_new_table}
 use Rattle.row_model.specs.declared.row.Table.{Table}
 use Rattle.plain_engine.specs.inner.TablePlaces.{IsTable}
 use Rattle.row_model.specs.Limits.{over_tables}
-use Rattle.row_model.specs.Lists.{first}
+use Rattle.row_model.specs.RefusalOrder.{first}
 use Rattle.row_model.specs.Machine.{unless}
 use Rattle.row_model.specs.Step.{commits_spent, executed, if_none, inserted_catalog, kept_catalog, updated_catalog, with_tables}
 use Rattle.plain_engine.proofs.AutoCommitLaws.{writes_at_once}

@@ -12,7 +12,7 @@ use Rattle.vec_base.specs.declared.value.Value.{Value}
 use Rattle.std.specs.Option.{option_or}
 use Rattle.row_model.specs.declared.row.Table.{Table}
 use Rattle.row_model.specs.declared.schema.Place.{Place}
-use Rattle.row_model.specs.Lists.{first, when}
+use Rattle.row_model.specs.RefusalOrder.{first, when}
 use Rattle.row_model.specs.Change.{assigned, given_rowid, larger, new_row, row_of, spent, taken_rowid}
 use Rattle.row_model.specs.Rows.{has_rowid, with_row, is_rising}
 use Rattle.plain_engine.specs.inner.OrderedTables.{IsOrdered}

@@ -3,7 +3,7 @@ ghost use Rattle.std.specs.Prelude.{◌≡◌, ◌+◌, ◌++◌, true, length, 
 ghost use Rattle.row_model.specs.declared.request.Request.TheVariants.{Execute, OpenSession};
 ghost use Rattle.plain_engine.specs.inner.AutoCommit.{all_idle, ExecutesInAutoCommit};
 ghost use Rattle.row_model.specs.Limits.{over_sessions, over_session_ids};
-ghost use Rattle.row_model.specs.Lists.{first};
+ghost use Rattle.row_model.specs.RefusalOrder.{first};
 ghost use Rattle.row_model.specs.Machine.{first_state, new_session, no_tables, session_of};
 ghost use Rattle.row_model.specs.DirectStatements.{is_direct};
 ghost use Rattle.plain_engine.specs.DirectRequests.{is_direct_request};

@@ -8,7 +8,7 @@ ghost use Rattle.row_model.specs.Change.{with_rows, with_table};
 ghost use Rattle.row_model.specs.ColumnNames.{place_of};
 ghost use Rattle.plain_engine.specs.inner.TablePlaces.{IsTableAt};
 ghost use Rattle.row_model.specs.Limits.{over_tables};
-ghost use Rattle.row_model.specs.Lists.{first};
+ghost use Rattle.row_model.specs.RefusalOrder.{first};
 ghost use Rattle.row_model.specs.Step.{commits_spent, inserted_catalog, kept_catalog, too_many, updated_catalog, with_tables};
 ghost use Rattle.row_model.specs.Valid.{IsValidCatalog, IsValidTable};
 ghost use Rattle.row_model.specs.declared.schema.TheConstants.{MOST_COLUMNS};

@@ -4,7 +4,7 @@ ghost use Rattle.std.specs.List.{insert};
 ghost use Rattle.row_model.specs.declared.row.Row.{Row as RowOf};
 ghost use Rattle.row_model.specs.declared.row.Table.{Table as TableOf};
 ghost use Rattle.row_model.specs.Change.{Elsewhere, assigned, given_rowid, group_refusals, grown, larger, last_rowid, new_row, room_refusals, row_refusals, spent, taken_id, taken_rowid, with_new_row};
-ghost use Rattle.row_model.specs.Lists.{first};
+ghost use Rattle.row_model.specs.RefusalOrder.{first};
 ghost use Rattle.row_model.specs.Rows.{is_rising, with_row};
 ghost use Rattle.plain_engine.specs.inner.ByteTotals.{total_beside};
 ghost use Rattle.plain_engine.specs.inner.OrderedTables.{IsOrdered};

@@ -4,7 +4,7 @@ ghost use Rattle.std.specs.List.{insert};
 ghost use Rattle.row_model.specs.declared.row.Row.{Row as RowOf};
 ghost use Rattle.row_model.specs.Change.{Elsewhere, assigned, blank, given_rowid, grown, group_refusals, keyed, larger, last_rowid, long_values, new_row, put_all, put_at, room_refusals, row_of, rowid_at, same_id, is_same_text, is_the_text, spent, taken_id, taken_rowid, with_new_row};
 ghost use Rattle.row_model.specs.ColumnNames.{is_text_key};
-ghost use Rattle.row_model.specs.Lists.{first};
+ghost use Rattle.row_model.specs.RefusalOrder.{first};
 ghost use Rattle.row_model.specs.Rows.{has_rowid, is_rising, with_row};
 
 use crate::totals::side_bytes;

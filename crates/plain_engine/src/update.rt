@@ -3,7 +3,7 @@ ghost use Rattle.std.specs.Prelude.{◌≡◌, ◌≤◌, ◌<◌, ◌+◌, true
 ghost use Rattle.row_model.specs.declared.row.Table.{Table as TableOf};
 ghost use Rattle.row_model.specs.Values.{met};
 ghost use Rattle.row_model.specs.Change.{Elsewhere, kept, put_at, set_all, updated, updated_row, update_refusals, long_values, with_rows};
-ghost use Rattle.row_model.specs.Lists.{first};
+ghost use Rattle.row_model.specs.RefusalOrder.{first};
 ghost use Rattle.plain_engine.specs.inner.ByteTotals.{total_beside};
 ghost use Rattle.row_model.specs.Values.{meets_all};
 ghost use Rattle.row_model.specs.declared.schema.TheConstants.{MOST_COLUMNS};

@@ -2,7 +2,7 @@
 ghost use Rattle.std.specs.Prelude.{◌≡◌, ◌<◌, ◌≤◌, ◌+◌, length, Some};
 ghost use Rattle.row_model.specs.Check.{check_insert, check_update, check_delete, check_select, names_faults, items_faults, limit_range_faults, limit_faults, item_count, index_after};
 ghost use Rattle.row_model.specs.ColumnNames.{place_of};
-ghost use Rattle.row_model.specs.Lists.{least_after};
+ghost use Rattle.row_model.specs.RefusalOrder.{least_after};
 
 use crate::fit::{note, note_value};
 use crate::forms::{is_nearest, note_change_forms, note_select_forms};

@@ -1,7 +1,7 @@
 //! The limits on tables, rows and runs: their numbers, and the refusal of a count that is over one.
 ghost use Rattle.std.specs.Prelude.{◌≡◌};
 ghost use Rattle.row_model.specs.Limits.{over, over_tables, over_rows, over_value, over_vectors, over_sides, over_sessions, over_session_ids, over_commits};
-ghost use Rattle.row_model.specs.Lists.{first};
+ghost use Rattle.row_model.specs.RefusalOrder.{first};
 
 use vec_base::{
     LAST_SESSION, MOST_COMMITS, MOST_ROWS, MOST_SESSIONS, MOST_SIDE_BYTES, MOST_TABLES,

@@ -1,3 +1,4 @@
+//! The statements behind their first words: names, columns, values and rows.
 ghost use Rattle.std.specs.Prelude.{◌≡◌, true, IfOk};
 ghost use Rattle.grammar.specs.inner.ReaderResults.{rest_of, Gives};
 ghost use Rattle.grammar.specs.inner.Reading.{read, starts};

@@ -1,3 +1,4 @@
+//! Why the meaning of a given statement is not found.
 ghost use Rattle.std.specs.Prelude.{◌≡◌};
 
 use vec_base::Memory;

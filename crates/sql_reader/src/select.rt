@@ -1,3 +1,4 @@
+//! The parts of a SELECT behind its items.
 ghost use Rattle.std.specs.Prelude.{◌≡◌, true, IfOk};
 ghost use Rattle.grammar.specs.inner.ReaderResults.{rest_of, Gives};
 ghost use Rattle.grammar.specs.inner.Reading.{read};

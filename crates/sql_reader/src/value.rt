@@ -1,3 +1,4 @@
+//! Values as texts give them.
 ghost use Rattle.std.specs.Prelude.{◌≡◌, Some, None, if◌then◌else◌, IfOk, true};
 ghost use Rattle.grammar.specs.inner.ReaderResults.{rest_of, Gives};
 ghost use Rattle.grammar.specs.inner.Reading.{read};

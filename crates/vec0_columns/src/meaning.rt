@@ -86,7 +86,7 @@ fn count_sizes(args: &[Arg]) -> usize
         .count()
 }
 
-/// The first chunk size, or the one that is taken where none is given.
+/// The first chunk size, or the default where none is given.
 fn chunk_size(args: &[Arg]) -> u16
     ensures { result ≡ first_or DEFAULT_CHUNK_SIZE (sizes_of (map narrow_arg args.now)) }
 {
@@ -130,7 +130,7 @@ fn kind_of(spelled: Spelled) -> Kind
 fn narrow(number: u64) -> u16
     ensures { result ≡ narrow number }
 {
-    if number <= u64::from(u16::MAX) {
+    if number <= u16::MAX as u64 {
         number as u16
     } else {
         u16::MAX

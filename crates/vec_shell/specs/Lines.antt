@@ -3,7 +3,7 @@ use Rattle.std.specs.Prelude.{ℕ, List, [], ◌++◌, length, codes}
 use Rattle.std.specs.List.{flat_map}
 use Rattle.vec_base.specs.declared.value.Value.{Value}
 use Rattle.vec_base.specs.Refusals.{number_of}
-use Rattle.vec_text.specs.Lists.{separated}
+use Rattle.vec_text.specs.SeparatedTexts.{separated}
 use Rattle.vec_text.specs.RefusalTexts.{counted, signed_counted, refusal_text}
 use Rattle.vec_text.specs.ValueTexts.{value_text}
 use Rattle.row_model.specs.declared.request.Reply.{Reply}

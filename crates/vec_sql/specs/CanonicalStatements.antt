@@ -3,7 +3,7 @@ use Rattle.std.specs.Prelude.{ℕ, List, [], ◌∷◌, ◌++◌, codes, Option,
 use Rattle.vec_base.specs.declared.value.Op.{Op}
 use Rattle.vec_base.specs.declared.value.Op.TheVariants.{Eq, Ne, Lt, Le, Gt, Ge}
 use Rattle.vec_base.specs.declared.value.Value.{Value}
-use Rattle.vec_text.specs.Lists.{separated}
+use Rattle.vec_text.specs.SeparatedTexts.{separated}
 use Rattle.vec_text.specs.ValueTexts.{value_text}
 use Rattle.row_model.specs.CanonicalColumns.{canonical_columns}
 use Rattle.row_model.specs.declared.statement.Assign.{Assign}

@@ -2,7 +2,7 @@
 use Rattle.std.proofs.Common.{◌≡◌, ℕ, ◌+◌, ◌<◌, List, ◌++◌, length, take, get_or, sym, ap, ◌∙◌, append_assoc}
 use Rattle.std.proofs.lemmas.List.{take_more, append-nil}
 use Rattle.std.proofs.lemmas.List.Concat.{flat_map-append}
-use Rattle.vec_text.specs.Lists.{behind}
+use Rattle.vec_text.specs.SeparatedTexts.{behind}
 
 -- one element more
 pub behind_more : {A : Type 0} (separator : List ℕ) (text : A → List ℕ) (xs : List A) (i : ℕ) (d : A) → i < length xs →

@@ -1,4 +1,4 @@
 -- the texts of lists, of values and of refusals
-pub mod Lists
+pub mod SeparatedTexts
 pub mod RefusalTexts
 pub mod ValueTexts

@@ -5,7 +5,7 @@ use Rattle.std.specs.Int.{w8, cast_signed}
 use Rattle.hex.specs.Hex.{encode_upper}
 use Rattle.vec_base.specs.declared.value.Value.{Value}
 use Rattle.vec_base.specs.declared.value.Value.TheVariants.{Null, Int, Text, Blob, Int8, Bits}
-use Rattle.vec_text.specs.Lists.{separated}
+use Rattle.vec_text.specs.SeparatedTexts.{separated}
 
 -- the text with each quote twice
 abbrev pub doubled : List ℕ → List ℕ

@@ -1,7 +1,7 @@
 //! Lists of things that are written, with a separator between them.
 
 ghost use Rattle.std.specs.Prelude.{ℕ, List as Seq, OnOk, OnErr};
-ghost use Rattle.vec_text.specs.Lists.{behind, separated};
+ghost use Rattle.vec_text.specs.SeparatedTexts.{behind, separated};
 
 use crate::Takes;
 use std::alloc::AllocError;

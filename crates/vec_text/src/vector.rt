@@ -1,7 +1,7 @@
 //! The literal of an int8 vector.
 
 ghost use Rattle.std.specs.Prelude.{OnOk, OnErr, codes};
-ghost use Rattle.vec_text.specs.Lists.{behind};
+ghost use Rattle.vec_text.specs.SeparatedTexts.{behind};
 ghost use Rattle.vec_text.specs.ValueTexts.{element_text, elements_text, int8_text};
 
 use crate::{Takes, put_signed};

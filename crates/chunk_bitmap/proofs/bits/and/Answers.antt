@@ -3,7 +3,7 @@ use Rattle.std.specs.Int.RustNames.{bit_and}
 use Rattle.std.specs.Simd.Lanes.{zip2}
 use Rattle.std.proofs.lemmas.Grind.{same_number_lists}
 use Rattle.std.proofs.lemmas.Simd.{get_or-zip2, length-zip2}
-use Rattle.chunk_bitmap.specs.Bits.{bits_of}
+use Rattle.chunk_bitmap.specs.BitsOfBytes.{bits_of}
 use Rattle.chunk_bitmap.proofs.BitLaws.{bits-and}
 use Rattle.chunk_bitmap.proofs.bits.and.Goals as goal
 

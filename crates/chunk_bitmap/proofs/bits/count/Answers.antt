@@ -4,7 +4,7 @@ use Rattle.std.specs.List.{count_by}
 use Rattle.std.proofs.lemmas.List.{take_more, length-take-le}
 use Rattle.std.proofs.lemmas.List.Sums.{count_by-le-length}
 use Rattle.std.proofs.lemmas.Nat.{ones-le}
-use Rattle.chunk_bitmap.specs.Bits.{bits_of}
+use Rattle.chunk_bitmap.specs.BitsOfBytes.{bits_of}
 use Rattle.chunk_bitmap.proofs.BitLaws.{length_bits, count_more}
 use Rattle.chunk_bitmap.proofs.bits.count.Goals as goal
 

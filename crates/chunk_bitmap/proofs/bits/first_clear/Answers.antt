@@ -1,7 +1,7 @@
 use Rattle.std.proofs.Common.{rules, Some, ap, ◌∙◌, ◌≡◌, ◌+◌, ◌*◌, ◌<◌, get_or, sym, arith}
 use Rattle.std.specs.Int.{w8, trailing_ones}
 use Rattle.std.proofs.lemmas.Nat.Bits.{bit_at-trailing_ones}
-use Rattle.chunk_bitmap.specs.Bits.{bits_of}
+use Rattle.chunk_bitmap.specs.BitsOfBytes.{bits_of}
 use Rattle.chunk_bitmap.proofs.BitLaws.{length_bits, first_clear_at, full_more, none_clear}
 use Rattle.chunk_bitmap.proofs.bits.first_clear.Goals as goal
 

@@ -1,5 +1,5 @@
 use Rattle.std.proofs.Common.{sym, arith}
-use Rattle.chunk_bitmap.specs.Bits.{bits_of}
+use Rattle.chunk_bitmap.specs.BitsOfBytes.{bits_of}
 use Rattle.chunk_bitmap.proofs.BitLaws.{length_bits, next_in_byte, next_set_none, none_in_byte}
 use Rattle.chunk_bitmap.proofs.bits.next_set.Goals as goal
 

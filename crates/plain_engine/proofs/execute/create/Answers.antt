@@ -1,7 +1,7 @@
 use Rattle.std.proofs.Common.{◌≡◌, ◌+◌, None, length, refl, rules}
 use Rattle.row_model.specs.Change.{table_named}
 use Rattle.row_model.specs.Limits.{over_tables}
-use Rattle.row_model.specs.Lists.{first}
+use Rattle.row_model.specs.RefusalOrder.{first}
 use Rattle.row_model.specs.Step.{commits_spent}
 use Rattle.plain_engine.proofs.ExecuteLaws.{create_writes, if_none-some, if_none-none, write-refused, write-spent, write-done}
 use Rattle.plain_engine.proofs.execute.create.Goals as goal

@@ -1,5 +1,5 @@
 use Rattle.std.proofs.Common.{◌≡◌, None, refl, rules}
-use Rattle.row_model.specs.Lists.{first}
+use Rattle.row_model.specs.RefusalOrder.{first}
 use Rattle.row_model.specs.Step.{commits_spent}
 use Rattle.plain_engine.proofs.ExecuteLaws.{drop_writes, write-spent, write-done}
 use Rattle.plain_engine.proofs.execute.drop_table.Goals as goal

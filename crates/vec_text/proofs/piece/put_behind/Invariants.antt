@@ -1,6 +1,6 @@
 -- The texts before the next one are written.
 use Rattle.std.proofs.Common.{take}
-use Rattle.vec_text.specs.Lists.{behind}
+use Rattle.vec_text.specs.SeparatedTexts.{behind}
 use Rattle.vec_text.proofs.piece.put_behind.Given as goal
 
 abbrev pub invariant-loop-piece : goal.invariant-loop-piece

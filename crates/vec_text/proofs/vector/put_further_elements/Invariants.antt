@@ -1,6 +1,6 @@
 -- The elements before the next one are written.
 use Rattle.std.proofs.Common.{take, codes}
-use Rattle.vec_text.specs.Lists.{behind}
+use Rattle.vec_text.specs.SeparatedTexts.{behind}
 use Rattle.vec_text.specs.ValueTexts.{element_text}
 use Rattle.vec_text.proofs.vector.put_further_elements.Given as goal
 

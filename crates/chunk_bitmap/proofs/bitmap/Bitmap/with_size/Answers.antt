@@ -1,5 +1,5 @@
 use Rattle.std.proofs.Common.{rules, ◌≡◌, ◌*◌, ◌/◌, ap, ◌∙◌, arith, replicate, false}
-use Rattle.chunk_bitmap.specs.Bits.{bits_of}
+use Rattle.chunk_bitmap.specs.BitsOfBytes.{bits_of}
 use Rattle.chunk_bitmap.proofs.BitLaws.{bits-zero}
 use Rattle.chunk_bitmap.proofs.bitmap.Bitmap.with_size.Goals as goal
 
