@@ -13,7 +13,7 @@ use Rattle.vec_literal.specs.declared.token.TokenSort.TheVariants as sorts
 use Rattle.grammar.specs.Grammar.{is_sort, same_sort, keyword, sign, name, number, number_after_minus, text_literal, blob_literal, parameter, parameter_number, fits}
 use Rattle.grammar.specs.Parameters.{is_plain, with_number, greatest_after, numbered, numbered_from}
 use Rattle.grammar.specs.inner.Reading.{next_in}
-use Rattle.grammar.specs.inner.ReaderResults.{first_of, place_of, is_number_up_to, is_told, is_param_told, AtNumber, AtParameter, next_number, WritesParameter}
+use Rattle.grammar.specs.inner.ReaderResults.{first_of, place_of, is_number_up_to, is_well_spelled, is_well_spelled_parameter, AtNumber, AtParameter, next_number, WritesParameter}
 use Rattle.grammar.proofs.Places.{next_first, name_is_word, number_next, after_minus_next, text_at, blob_at, told_text, told_blob, implied, param_nonempty, param_digits, param_bare}
 
 -- ---- what stays
@@ -106,8 +106,8 @@ fits_by t h = ap (λ (b : Bool). b && nat_le 1 (parameter_number t) && nat_le (p
 pub spelling_kept : (o : Option ℕ) (ts : List Token) (bytes : List ℕ) → is_sort sorts.Param (first_of (numbered_from o ts)).sort ≡ false → bytes ≡ (first_of ts).spelling → bytes ≡ (first_of (numbered_from o ts)).spelling
 spelling_kept o ts bytes h e = e ∙ ap (λ (t : Token). t.spelling) (sym (first_kept o ts h))
 
-pub told_kept : (o : Option ℕ) (ts : List Token) → is_sort sorts.Param (first_of (numbered_from o ts)).sort ≡ false → is_told (first_of ts) ≡ true → is_told (first_of (numbered_from o ts)) ≡ true
-told_kept o ts h e = ap (λ (t : Token). is_told t) (first_kept o ts h) ∙ e
+pub told_kept : (o : Option ℕ) (ts : List Token) → is_sort sorts.Param (first_of (numbered_from o ts)).sort ≡ false → is_well_spelled (first_of ts) ≡ true → is_well_spelled (first_of (numbered_from o ts)) ≡ true
+told_kept o ts h e = ap (λ (t : Token). is_well_spelled t) (first_kept o ts h) ∙ e
 
 -- a sort that is no parameter's
 sort_apart : (s : TokenSort) (o : Option TokenSort) → same_sort s sorts.Param ≡ false → is_sort s o ≡ true → is_sort sorts.Param o ≡ false
@@ -176,24 +176,24 @@ number_tested (Some n) ts h = sym (number_taken ts h.0)
 
 -- literals at hand are spelled as such
 
-pub text_spelled : (ts : List Token) (bytes : List ℕ) → is_told (first_of ts) ≡ true → bytes ≡ (first_of ts).spelling → next_in (text_literal ∷ []) ts ≡ true → is_text_literal bytes ≡ true
+pub text_spelled : (ts : List Token) (bytes : List ℕ) → is_well_spelled (first_of ts) ≡ true → bytes ≡ (first_of ts).spelling → next_in (text_literal ∷ []) ts ≡ true → is_text_literal bytes ≡ true
 text_spelled ts bytes h e k = ap (λ (z : List ℕ). is_text_literal z) e ∙ told_text (first_of ts) h (text_at ts ∙ k)
 
-pub blob_spelled : (ts : List Token) (bytes : List ℕ) → is_told (first_of ts) ≡ true → bytes ≡ (first_of ts).spelling → next_in (blob_literal ∷ []) ts ≡ true → is_blob_literal bytes ≡ true
+pub blob_spelled : (ts : List Token) (bytes : List ℕ) → is_well_spelled (first_of ts) ≡ true → bytes ≡ (first_of ts).spelling → next_in (blob_literal ∷ []) ts ≡ true → is_blob_literal bytes ≡ true
 blob_spelled ts bytes h e k = ap (λ (z : List ℕ). is_blob_literal z) e ∙ told_blob (first_of ts) h (blob_at ts ∙ k)
 
 -- ---- parameters
 
 -- digits behind a `?`
-pub digits_numeral : (t : Token) (digits : List ℕ) → is_sort sorts.Param t.sort ≡ true → is_param_told t ≡ true → digits ≡ drop 1 t.spelling → (length digits ≡ 0 → ⊥) → is_number_text digits ≡ true
+pub digits_numeral : (t : Token) (digits : List ℕ) → is_sort sorts.Param t.sort ≡ true → is_well_spelled_parameter t ≡ true → digits ≡ drop 1 t.spelling → (length digits ≡ 0 → ⊥) → is_number_text digits ≡ true
 digits_numeral t digits s h e some = param_digits t.spelling digits (implied (is_sort sorts.Param t.sort) (is_param_text t.spelling) h s) e some
 
 -- a parameter's text has a byte at least
-pub param_some : (t : Token) → is_sort sorts.Param t.sort ≡ true → is_param_told t ≡ true → 1 ≤ length t.spelling
+pub param_some : (t : Token) → is_sort sorts.Param t.sort ≡ true → is_well_spelled_parameter t ≡ true → 1 ≤ length t.spelling
 param_some t s h = param_nonempty t.spelling (implied (is_sort sorts.Param t.sort) (is_param_text t.spelling) h s)
 
 -- a parameter without digits is plain
-no_digits_plain : (t : Token) → is_sort sorts.Param t.sort ≡ true → is_param_told t ≡ true → length (drop 1 t.spelling) ≡ 0 → is_plain t ≡ true
+no_digits_plain : (t : Token) → is_sort sorts.Param t.sort ≡ true → is_well_spelled_parameter t ≡ true → length (drop 1 t.spelling) ≡ 0 → is_plain t ≡ true
 no_digits_plain t s h e = and_from _ _ s ((bytes_eq-Decides t.spelling (codes "?")).1 (param_bare t.spelling (implied (is_sort sorts.Param t.sort) (is_param_text t.spelling) h s) e))
 
 digits_not_plain : (t : Token) → (length (drop 1 t.spelling) ≡ 0 → ⊥) → is_plain t ≡ false
@@ -215,7 +215,7 @@ next_fits g t us s p = elim (cases_lt g 999) [
       subst (λ (o : Option ℕ). AtParameter o (with_number (suc g) t ∷ us)) (sym (cond-false (nat_lt g 999) (Some (suc g)) None (le-ltb g 999 l))) miss)
 ]
 
-pub plain_at : (o : Option ℕ) (ts : List Token) → is_sort sorts.Param (first_of ts).sort ≡ true → is_param_told (first_of ts) ≡ true → length (drop 1 (first_of ts).spelling) ≡ 0 → AtParameter (next_number o) (numbered_from o ts)
+pub plain_at : (o : Option ℕ) (ts : List Token) → is_sort sorts.Param (first_of ts).sort ≡ true → is_well_spelled_parameter (first_of ts) ≡ true → length (drop 1 (first_of ts).spelling) ≡ 0 → AtParameter (next_number o) (numbered_from o ts)
 unfolding numbered
 plain_at None ts s h e = param_fits ts s ∙ ap (λ (n : ℕ). fits_number n) (plain_none (first_of ts) (no_digits_plain (first_of ts) s h e))
 plain_at (Some g) [] s h e = absurd cc

@@ -18,7 +18,8 @@ use Rattle.vec_literal.specs.declared.token.TokenSort.TheVariants as sorts
 use Rattle.vec_literal.specs.declared.token.Lexed.{Lexed}
 use Rattle.vec_literal.specs.declared.token.Lexed.TheVariants as lexed
 use Rattle.std.specs.Prelude.{MatchOption, slice_range, codes}
-use Rattle.grammar.specs.inner.ReaderResults.{first_of, AtNumber, is_number_up_to, is_told, is_param_told, is_in_any_case}
+use Rattle.grammar.specs.Grammar.{is_in_any_case}
+use Rattle.grammar.specs.inner.ReaderResults.{first_of, AtNumber, is_number_up_to, is_well_spelled, is_well_spelled_parameter}
 
 pub bad_fits : (c : Class) (p : ℕ) → fits c (bad_at p) ≡ false
 unfolding fits
@@ -177,7 +178,7 @@ number_result greatest ts ds (Some n) k a h =
     let e : n ≡ number_of (first_of ts) = h.0 ∙ ap (λ (z : List ℕ). digits_value 10 z) a in
     (up_to_fits greatest (first_of ts) n k e h.1, e, h.1)
 
-told_found : (text : List ℕ) (sort : TokenSort) (from upto : ℕ) → is_spelling sort (slice_range text from upto) ≡ true → is_told (record { sort = Some sort; spelling = slice_range text from upto; place = from }) ≡ true
+told_found : (text : List ℕ) (sort : TokenSort) (from upto : ℕ) → is_spelling sort (slice_range text from upto) ≡ true → is_well_spelled (record { sort = Some sort; spelling = slice_range text from upto; place = from }) ≡ true
 unfolding is_spelling
 told_found text sorts.Word from upto h = and_from _ _ (and_from _ _ h refl) refl
 told_found text sorts.Number from upto h = and_from _ _ (and_from _ _ (and_from _ _ h refl) refl) refl
@@ -186,12 +187,12 @@ told_found text sorts.BlobLit from upto h = h
 told_found text sorts.Param from upto h = refl
 told_found text sorts.Mark from upto h = refl
 
-pub right_told : (text : List ℕ) (a : Lexed) → is_right text a ≡ true → is_told (first_of (after text a)) ≡ true
-right_told text (lexed.Found t) h = told_found text t.sort t.from t.upto (and_parts _ _ h).1
-right_told text lexed.End h = refl
-right_told text (lexed.Bad p) h = refl
+pub right_spelled : (text : List ℕ) (a : Lexed) → is_right text a ≡ true → is_well_spelled (first_of (after text a)) ≡ true
+right_spelled text (lexed.Found t) h = told_found text t.sort t.from t.upto (and_parts _ _ h).1
+right_spelled text lexed.End h = refl
+right_spelled text (lexed.Bad p) h = refl
 
-param_found : (text : List ℕ) (sort : TokenSort) (from upto : ℕ) → is_spelling sort (slice_range text from upto) ≡ true → is_param_told (record { sort = Some sort; spelling = slice_range text from upto; place = from }) ≡ true
+param_found : (text : List ℕ) (sort : TokenSort) (from upto : ℕ) → is_spelling sort (slice_range text from upto) ≡ true → is_well_spelled_parameter (record { sort = Some sort; spelling = slice_range text from upto; place = from }) ≡ true
 unfolding is_spelling
 param_found text sorts.Word from upto h = refl
 param_found text sorts.Number from upto h = refl
@@ -200,10 +201,10 @@ param_found text sorts.BlobLit from upto h = refl
 param_found text sorts.Param from upto h = h
 param_found text sorts.Mark from upto h = refl
 
-pub right_param_told : (text : List ℕ) (a : Lexed) → is_right text a ≡ true → is_param_told (first_of (after text a)) ≡ true
-right_param_told text (lexed.Found t) h = param_found text t.sort t.from t.upto (and_parts _ _ h).1
-right_param_told text lexed.End h = refl
-right_param_told text (lexed.Bad p) h = refl
+pub right_parameter_spelled : (text : List ℕ) (a : Lexed) → is_right text a ≡ true → is_well_spelled_parameter (first_of (after text a)) ≡ true
+right_parameter_spelled text (lexed.Found t) h = param_found text t.sort t.from t.upto (and_parts _ _ h).1
+right_parameter_spelled text lexed.End h = refl
+right_parameter_spelled text (lexed.Bad p) h = refl
 
 record ToldParts (t : Token) : Type 0 where
   number : (not (is_sort sorts.Number t.sort) || is_number_text t.spelling) ≡ true
@@ -211,7 +212,7 @@ record ToldParts (t : Token) : Type 0 where
   text : (not (is_sort sorts.TextLit t.sort) || is_text_literal t.spelling) ≡ true
   blob : (not (is_sort sorts.BlobLit t.sort) || is_blob_literal t.spelling) ≡ true
 
-told_parts : (t : Token) → is_told t ≡ true → ToldParts t
+told_parts : (t : Token) → is_well_spelled t ≡ true → ToldParts t
 told_parts t h =
     let three = and_parts _ _ h in
     let two = and_parts _ _ three.0 in
@@ -221,7 +222,7 @@ told_parts t h =
 pub implied : (a b : Bool) → (not a || b) ≡ true → a ≡ true → b ≡ true
 implied a b h k = grind arith
 
-pub told_number : (t : Token) (ds : List ℕ) → is_told t ≡ true → is_sort sorts.Number t.sort ≡ true → ds ≡ t.spelling → is_number_text ds ≡ true
+pub told_number : (t : Token) (ds : List ℕ) → is_well_spelled t ≡ true → is_sort sorts.Number t.sort ≡ true → ds ≡ t.spelling → is_number_text ds ≡ true
 told_number t ds h k e = subst (λ (z : List ℕ). is_number_text z ≡ true) (sym e) (implied (is_sort sorts.Number t.sort) (is_number_text t.spelling) (told_parts t h).number k)
 
 word_byte_ascii : (b : ℕ) → is_word_byte b ≡ true → b < 128
@@ -241,7 +242,7 @@ word_ascii (b ∷ bs) h zero = letter_ascii b (and_parts _ _ h).0
 word_ascii (b ∷ bs) h (suc i) = word_bytes_ascii bs (and_parts _ _ h).1 i
 
 -- a word is UTF-8
-pub told_word : (t : Token) (bs : List ℕ) → is_told t ≡ true → is_sort sorts.Word t.sort ≡ true → bs ≡ t.spelling → IsUtf8 bs
+pub told_word : (t : Token) (bs : List ℕ) → is_well_spelled t ≡ true → is_sort sorts.Word t.sort ≡ true → bs ≡ t.spelling → IsUtf8 bs
 told_word t bs h k e = subst (λ (z : List ℕ). IsUtf8 z) (sym e) (IsUtf8-from_ascii t.spelling (word_ascii t.spelling (implied (is_sort sorts.Word t.sort) (is_word_text t.spelling) (told_parts t h).word k)))
 
 -- a name in lower case
@@ -267,7 +268,7 @@ lowered_length : (bs : List ℕ) → length (lowered bs) ≡ length bs
 lowered_length [] = refl
 lowered_length (b ∷ bs) = ap suc (lowered_length bs)
 
-pub name_told : (ts : List Token) → is_told (first_of ts) ≡ true → next_in (name ∷ []) ts ≡ true → is_name (lower (first_of ts)) ≡ true
+pub name_told : (ts : List Token) → is_well_spelled (first_of ts) ≡ true → next_in (name ∷ []) ts ≡ true → is_name (lower (first_of ts)) ≡ true
 unfolding fits
 name_told ts h k =
     let f = and_parts _ _ (sym (next_first name ts) ∙ k) in
@@ -276,15 +277,15 @@ name_told ts h k =
     (small_word (first_of ts).spelling (implied (is_sort sorts.Word (first_of ts).sort) (is_word_text (first_of ts).spelling) (told_parts (first_of ts) h).word g.0))
     (ap (λ (n : ℕ). nat_le n 64) (lowered_length (first_of ts).spelling) ∙ g.1) f.1
 
-pub name_kept : (ts : List Token) (t : List ℕ) → t ≡ lower (first_of ts) → is_told (first_of ts) ≡ true → next_in (name ∷ []) ts ≡ true → is_name t ≡ true
+pub name_kept : (ts : List Token) (t : List ℕ) → t ≡ lower (first_of ts) → is_well_spelled (first_of ts) ≡ true → next_in (name ∷ []) ts ≡ true → is_name t ≡ true
 name_kept ts t e h k = ap (λ (z : List ℕ). is_name z) e ∙ name_told ts h k
 
 -- literals and parameters
 
-pub told_text : (t : Token) → is_told t ≡ true → is_sort sorts.TextLit t.sort ≡ true → is_text_literal t.spelling ≡ true
+pub told_text : (t : Token) → is_well_spelled t ≡ true → is_sort sorts.TextLit t.sort ≡ true → is_text_literal t.spelling ≡ true
 told_text t h k = implied (is_sort sorts.TextLit t.sort) (is_text_literal t.spelling) (told_parts t h).text k
 
-pub told_blob : (t : Token) → is_told t ≡ true → is_sort sorts.BlobLit t.sort ≡ true → is_blob_literal t.spelling ≡ true
+pub told_blob : (t : Token) → is_well_spelled t ≡ true → is_sort sorts.BlobLit t.sort ≡ true → is_blob_literal t.spelling ≡ true
 told_blob t h k = implied (is_sort sorts.BlobLit t.sort) (is_blob_literal t.spelling) (told_parts t h).blob k
 
 pub param_nonempty : (bytes : List ℕ) → is_param_text bytes ≡ true → 1 ≤ length bytes

@@ -55,13 +55,17 @@ text_of t = text_value t.spelling
 abbrev pub lowered : List ℕ → List ℕ
 lowered w = map to_ascii_lowercase w
 
+-- the two are one word, but for capitals
+abbrev pub is_in_any_case : List ℕ → List ℕ → Bool
+is_in_any_case a b = bytes_eq (lowered a) (lowered b)
+
 -- the token's spelling in lower case
 abbrev pub lower : Token → List ℕ
 lower t = lowered t.spelling
 
 -- whether the token fits the place
 unfoldable pub fits : Class → Token → Bool
-fits (keyword w) t = is_sort sorts.Word t.sort && bytes_eq (lower t) (lowered w)
+fits (keyword w) t = is_sort sorts.Word t.sort && is_in_any_case t.spelling w
 fits (sign m) t = is_sort sorts.Mark t.sort && bytes_eq t.spelling m
 fits name t = is_sort sorts.Word t.sort && nat_le (length t.spelling) MOST_NAME_BYTES && not (is_reserved (lower t))
 fits number t = is_sort sorts.Number t.sort && nat_le (number_of t) (2 ^ 63 - 1)

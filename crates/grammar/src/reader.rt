@@ -46,7 +46,7 @@ impl<'a> Reader<'a> {
     ghost use Rattle.vec_literal.specs.Tokens.{tokens};
     ghost use Rattle.vec_literal.specs.LiteralValues.{blob_value};
     ghost use Rattle.vec_literal.specs.declared.token.TokenSort.TheVariants.{Word as word_sort, Param as param_sort};
-    ghost use Rattle.grammar.specs.inner.ReaderResults.{rest_of, spelled_rest, Gives, first_of, AtNumber, AtParameter, next_number, is_told, is_param_told, place_of};
+    ghost use Rattle.grammar.specs.inner.ReaderResults.{rest_of, spelled_rest, Gives, first_of, AtNumber, AtParameter, next_number, is_well_spelled, is_well_spelled_parameter, place_of};
     ghost use Rattle.grammar.specs.FailingToken.{refusal_of};
     ghost use Rattle.grammar.specs.Grammar.{keyword, name as name_class, number as number_class, text_literal as text_class, blob_literal as blob_class, parameter as parameter_class, sign, means, a_word, a_mark, a_placed_mark, a_name, a_number, a_number_after_minus, a_signed_number, a_text, a_placed_text, a_blob, a_parameter, lower, text_of, is_sort};
     ghost use Rattle.grammar.specs.Parameters.{numbered_tokens};
@@ -119,11 +119,11 @@ impl<'a> Reader<'a> {
     }
 
     /// The bytes of the token at hand, as it stands in the text.
-    #[tactic(auto, using(crate::proofs::Places::right_told, crate::proofs::Places::right_param_told))]
+    #[tactic(auto, using(crate::proofs::Places::right_spelled, crate::proofs::Places::right_parameter_spelled))]
     fn spelling(&self) -> &'a [u8]
         ensures value { result.now ≡ (first_of (spelled_rest self.now)).spelling }
-        ensures told { is_told (first_of (spelled_rest self.now)) ≡ true }
-        ensures param_told { is_param_told (first_of (spelled_rest self.now)) ≡ true }
+        ensures well_spelled { is_well_spelled (first_of (spelled_rest self.now)) ≡ true }
+        ensures parameter { is_well_spelled_parameter (first_of (spelled_rest self.now)) ≡ true }
     {
         match self.ahead {
             Lexed::Found(token) => &self.text[token.from..token.upto],
@@ -136,7 +136,7 @@ impl<'a> Reader<'a> {
     fn bytes(&self) -> &'a [u8]
         requires { is_sort param_sort (first_of (rest_of self.now)).sort ≡ false }
         ensures value { result.now ≡ (first_of (rest_of self.now)).spelling }
-        ensures told { is_told (first_of (rest_of self.now)) ≡ true }
+        ensures well_spelled { is_well_spelled (first_of (rest_of self.now)) ≡ true }
     {
         self.spelling()
     }
@@ -212,7 +212,7 @@ impl<'a> Reader<'a> {
     fn word_text(&self) -> &str
         requires { is_sort word_sort (first_of (rest_of self.now)).sort ≡ true }
         ensures value { result.now ≡ (first_of (rest_of self.now)).spelling }
-        ensures told { is_told (first_of (rest_of self.now)) ≡ true }
+        ensures well_spelled { is_well_spelled (first_of (rest_of self.now)) ≡ true }
     {
         match str::from_utf8(self.bytes()) {
             Ok(text) => text,
@@ -405,7 +405,7 @@ impl<'a> Reader<'a> {
     fn digits(&self) -> &'a [u8]
         requires { is_sort param_sort (first_of (rest_of self.now)).sort ≡ true }
         ensures value { result.now ≡ drop 1 (first_of (spelled_rest self.now)).spelling }
-        ensures told { is_param_told (first_of (spelled_rest self.now)) ≡ true }
+        ensures well_spelled { is_well_spelled_parameter (first_of (spelled_rest self.now)) ≡ true }
     {
         &self.spelling()[1..]
     }

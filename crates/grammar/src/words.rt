@@ -1,9 +1,8 @@
 //! Words that are no names, and words of forms that are not supported.
 ghost use Rattle.std.specs.Prelude.{◌≡◌, ◌<◌, length};
 ghost use Rattle.std.specs.List.{list_any, position_from};
-ghost use Rattle.grammar.specs.Grammar.{lowered};
+ghost use Rattle.grammar.specs.Grammar.{is_in_any_case, lowered};
 ghost use Rattle.vec_base.specs.Words.{is_reserved, unsupported_number};
-ghost use Rattle.grammar.specs.inner.ReaderResults.{is_in_any_case};
 
 use vec_base::{RESERVED_UNSUPPORTED, STATEMENT_WORDS, UNSUPPORTED_WORDS};
 

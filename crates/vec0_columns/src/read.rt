@@ -13,7 +13,7 @@ use std::alloc::Global;
 use vec_base::{MOST_TEXT_BYTES, Refusal};
 
 /// The schema that the text between vec0's parentheses declares. Names are in lower case; the metric of a vector of bytes
-/// is `L2` and the chunk size 1024 where none is given.
+/// is `L2` and the chunk size `DEFAULT_CHUNK_SIZE` where none is given.
 ///
 /// Errors: `Syntax` with the place of the failing token, or with `MOST_TEXT_BYTES` where the text has more bytes than that;
 /// `Unsupported` where the failing token is such a word; `BadSchema` with the least rule that is broken; `WantOfMemory`.

@@ -1,12 +1,12 @@
 -- What a reader of a part returns.
-use Rattle.std.specs.Prelude.{◌≡◌, ◌≤◌, suc, nat_le, nat_lt, if◌then◌else◌, Option, Some, None, true, false, not, ◌||◌, ◌&&◌, ℕ, List, [], ◌∷◌, Result, Ok, Err, Bool, bytes_eq}
+use Rattle.std.specs.Prelude.{◌≡◌, ◌≤◌, suc, nat_le, nat_lt, if◌then◌else◌, Option, Some, None, true, false, not, ◌||◌, ◌&&◌, ℕ, List, [], ◌∷◌, Result, Ok, Err, Bool}
 use Rattle.std.specs.Str.Parse.{digits_value}
 use Rattle.vec_literal.specs.Tokens.{Token, after, bad_at, is_number_text, is_word_text, is_text_literal, is_blob_literal, is_param_text}
 use Rattle.vec_literal.specs.declared.token.TokenSort.TheVariants as sorts
 use Rattle.grammar.specs.declared.reader.Reader.{Reader}
 use Rattle.grammar.specs.declared.reader.Stop.{Stop}
 use Rattle.grammar.specs.declared.reader.Stop.TheVariants as stops
-use Rattle.grammar.specs.Grammar.{is_sort, parameter, number_of, parameter_number, lowered}
+use Rattle.grammar.specs.Grammar.{is_sort, parameter, number_of, parameter_number}
 use Rattle.grammar.specs.Parameters.{numbered_from}
 use Rattle.vec_base.specs.declared.limits.TheConstants.{MOST_PARAMETERS}
 use Rattle.grammar.specs.inner.Reading.{Outcome, next_in}
@@ -59,16 +59,12 @@ abbrev pub place_of : ℕ → List Token → ℕ
 place_of end [] = end
 place_of end (t ∷ ts) = t.place
 
--- the two are one word, but for capitals
-abbrev pub is_in_any_case : List ℕ → List ℕ → Bool
-is_in_any_case a b = bytes_eq (lowered a) (lowered b)
-
 -- numbers, words, text literals and blob literals are spelled as such
-abbrev pub is_told : Token → Bool
-is_told t =
+abbrev pub is_well_spelled : Token → Bool
+is_well_spelled t =
     (not (is_sort sorts.Number t.sort) || is_number_text t.spelling) && (not (is_sort sorts.Word t.sort) || is_word_text t.spelling) &&
     (not (is_sort sorts.TextLit t.sort) || is_text_literal t.spelling) && (not (is_sort sorts.BlobLit t.sort) || is_blob_literal t.spelling)
 
 -- a parameter is spelled as such
-abbrev pub is_param_told : Token → Bool
-is_param_told t = not (is_sort sorts.Param t.sort) || is_param_text t.spelling
+abbrev pub is_well_spelled_parameter : Token → Bool
+is_well_spelled_parameter t = not (is_sort sorts.Param t.sort) || is_param_text t.spelling

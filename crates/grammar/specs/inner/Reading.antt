@@ -4,7 +4,7 @@ use Rattle.std.specs.List.{list_any, list_all}
 use Rattle.vec_literal.specs.Tokens.{Token}
 use Rattle.vec_literal.specs.declared.token.TokenSort.{TokenSort}
 use Rattle.vec_literal.specs.declared.token.TokenSort.TheVariants as sorts
-use Rattle.grammar.specs.Grammar.{Class, keyword, sign, name, number, number_after_minus, text_literal, blob_literal, parameter, Part, same_sort, one, seq, alt, opt, many, means, fits, lowered}
+use Rattle.grammar.specs.Grammar.{is_in_any_case, Class, keyword, sign, name, number, number_after_minus, text_literal, blob_literal, parameter, Part, same_sort, one, seq, alt, opt, many, means, fits, lowered}
 use Rattle.vec_base.specs.Words.{is_reserved}
 
 -- what reading a part gives: its value and the tokens left, or the tokens left at the failing one
@@ -85,7 +85,7 @@ sort_for parameter = sorts.Param
 
 -- whether some token may fit both
 unfoldable pub overlap : Class → Class → Bool
-overlap (keyword a) (keyword b) = bytes_eq (lowered a) (lowered b)
+overlap (keyword a) (keyword b) = is_in_any_case a b
 overlap (keyword a) name = not (is_reserved (lowered a))
 overlap name (keyword b) = not (is_reserved (lowered b))
 overlap (sign a) (sign b) = bytes_eq a b

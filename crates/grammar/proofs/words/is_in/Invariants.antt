@@ -1,6 +1,6 @@
 use Rattle.std.proofs.Common.{◌≡◌, drop}
 use Rattle.std.specs.List.{list_any}
-use Rattle.grammar.specs.inner.ReaderResults.{is_in_any_case}
+use Rattle.grammar.specs.Grammar.{is_in_any_case}
 use Rattle.grammar.proofs.words.is_in.Given as goal
 
 abbrev pub invariant-loop-known : goal.invariant-loop-known

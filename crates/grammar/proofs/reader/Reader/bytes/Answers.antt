@@ -5,5 +5,5 @@ use Rattle.grammar.proofs.reader.Reader.bytes.Goals as goal
 pub returns-clause-value : goal.returns-clause-value
 returns-clause-value c = spelling_kept c.args.self.now.greatest (spelled_rest c.args.self.now) c.spelling.result.now c.requires c.spelling.ensures.value
 
-pub returns-clause-told : goal.returns-clause-told
-returns-clause-told c = told_kept c.args.self.now.greatest (spelled_rest c.args.self.now) c.requires c.spelling.ensures.told
+pub returns-clause-well_spelled : goal.returns-clause-well_spelled
+returns-clause-well_spelled c = told_kept c.args.self.now.greatest (spelled_rest c.args.self.now) c.requires c.spelling.ensures.well_spelled

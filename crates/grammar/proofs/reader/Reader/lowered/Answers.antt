@@ -10,4 +10,4 @@ word_text-requires c = name_is_word (rest_of c.args.self.now) c.requires
 pub returns-clause-name : goal.returns-clause-name
 returns-clause-name c =
     let same : c.from_string.result ≡ lower (first_of (rest_of c.args.self.now)) = search rules in
-    name_kept (rest_of c.args.self.now) c.from_string.result same c.word_text.ensures.told c.requires
+    name_kept (rest_of c.args.self.now) c.from_string.result same c.word_text.ensures.well_spelled c.requires

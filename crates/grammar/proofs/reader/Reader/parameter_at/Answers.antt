@@ -12,12 +12,12 @@ pub parameter_number-requires : goal.parameter_number-requires
 parameter_number-requires c =
     digits_numeral (first_of (spelled_rest c.args.self.now)) c.digits-digits.result.now
     (sort_spelled sorts.Param c.args.self.now.greatest (spelled_rest c.args.self.now) true (sym c.at_sort.ensures ∙ c.if-not-at_sort.false))
-    c.digits-digits.ensures.told c.digits-digits.ensures.value (eqb-false (length c.digits-digits.result.now) 0 (sym c.is_empty.ensures ∙ c.if-is_empty.false))
+    c.digits-digits.ensures.well_spelled c.digits-digits.ensures.value (eqb-false (length c.digits-digits.result.now) 0 (sym c.is_empty.ensures ∙ c.if-is_empty.false))
 
 pub returns-then-is_empty : goal.returns-then-is_empty
 returns-then-is_empty c = rw c.next_number.ensures (plain_at c.args.self.now.greatest (spelled_rest c.args.self.now)
     (sort_spelled sorts.Param c.args.self.now.greatest (spelled_rest c.args.self.now) true (sym c.at_sort.ensures ∙ c.if-not-at_sort.false))
-    c.digits-digits.ensures.told
+    c.digits-digits.ensures.well_spelled
     (ap length (sym c.digits-digits.ensures.value) ∙ eqb-true (length c.digits-digits.result.now) 0 (sym c.is_empty.ensures ∙ c.if-is_empty.true)))
 
 pub returns-else-is_empty : goal.returns-else-is_empty
