@@ -15,7 +15,7 @@ pub trait Item<'a>: Drop + Sized {
     ghost part: { Part Self };
 
     /// What holds of each item that is read.
-    ghost formed: { Self → Bool };
+    ghost well_formed: { Self → Bool };
 
     /// The token between two items.
     ghost between: { Class };
@@ -23,7 +23,7 @@ pub trait Item<'a>: Drop + Sized {
     /// Reads an item.
     fn read(alloc: Global, reader: &mut Reader<'a>) -> Result<Self, Stop>
         ensures reads { Gives (λ x. x) result (read part (rest_of reader.old)) (rest_of reader.new) }
-        ensures formed { IfOk result (λ x. formed x ≡ true) };
+        ensures well_formed { IfOk result (λ x. well_formed x ≡ true) };
 
     /// Whether the token between two items is at hand.
     fn at_next(reader: &Reader<'a>) -> bool
@@ -37,7 +37,7 @@ pub trait Item<'a>: Drop + Sized {
 /// Passes the token between two items and reads an item.
 fn next<'a, I: Item<'a>>(alloc: Global, reader: &mut Reader<'a>) -> Result<I, Stop>
     ensures reads { Gives (λ x. x) result (read (a_token I.between ▸ I.part) (rest_of reader.old)) (rest_of reader.new) }
-    ensures formed { IfOk result (λ x. I.formed x ≡ true) }
+    ensures well_formed { IfOk result (λ x. I.well_formed x ≡ true) }
 {
     I::pass(reader)?;
     I::read(alloc, reader)
@@ -46,7 +46,7 @@ fn next<'a, I: Item<'a>>(alloc: Global, reader: &mut Reader<'a>) -> Result<I, St
 /// Reads one item or more, with the token between each two of them.
 pub fn listed<'a, I: Item<'a>>(alloc: Global, reader: &mut Reader<'a>) -> Result<List<I>, Stop>
     ensures reads { Gives (λ x. x) result (read (parts_with I.between I.part) (rest_of reader.old)) (rest_of reader.new) }
-    ensures formed { IfOk result (λ xs. list_all I.formed xs ≡ true) }
+    ensures well_formed { IfOk result (λ xs. list_all I.well_formed xs ≡ true) }
     ensures filled { IfOk result (λ xs. 0 < length xs) }
 {
     let first = I::read(alloc, reader)?;
@@ -66,7 +66,7 @@ impl<'a> Item<'a> for Txt {
 
     ghost part = { a_name };
 
-    ghost formed = { is_name };
+    ghost well_formed = { is_name };
 
     ghost between = { sign (codes ",") };
 

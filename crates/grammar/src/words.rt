@@ -26,9 +26,12 @@ fn is_in(words: &[&str], word: &[u8]) -> bool
     false
 }
 
+/// The most words that a number of 8 bits counts.
+const MOST_WORDS: usize = u8::MAX as usize;
+
 /// The number, from 1, of the first of the words that is the word in any case, if one is.
 fn number_in(words: &[&str], word: &[u8]) -> Option<u8>
-    requires { length words.now < 255 }
+    requires { length words.now < MOST_WORDS }
     ensures { result ≡ position_from (λ known. is_in_any_case word.now known.now) 1 words.now }
 {
     let mut number = 1;

@@ -4,6 +4,7 @@ use Rattle.std.specs.List.{list_any, count_by}
 use Rattle.vec_literal.specs.Tokens.{Token}
 use Rattle.grammar.specs.Grammar.{Part, one, seq, alt, opt, means, sign, ◌▸◌, ◌◂◌, a_word, a_mark, a_name, a_number, list_of}
 use Rattle.vec_base.specs.Words.{is_name}
+use Rattle.vec_base.specs.declared.limits.TheConstants.{DEFAULT_CHUNK_SIZE}
 use Rattle.row_model.specs.declared.schema.Column.{Column}
 use Rattle.row_model.specs.declared.schema.Kind.{Kind}
 use Rattle.row_model.specs.declared.schema.Kind.TheVariants as kinds
@@ -131,7 +132,7 @@ first_or n (size ∷ sizes) = size
 
 -- The schema that the parts declare. Its numbers may be any, so that the rules of schemas speak of them all.
 abbrev pub schema_of : List Arg → Schema
-schema_of parts = record { columns = columns_of parts; chunk_size = first_or 1024 (sizes_of parts) }
+schema_of parts = record { columns = columns_of parts; chunk_size = first_or DEFAULT_CHUNK_SIZE (sizes_of parts) }
 
 abbrev pub is_bits_with_metric : Arg → Bool
 is_bits_with_metric (args.Column name (Bits n (Some m))) = true

@@ -14,6 +14,3 @@ pub use read::{read_columns, read_columns_at};
 pub use rule::schema_rule;
 pub use text::{Arg, Spelled, columns};
 pub use write::{put_columns, write_columns};
-
-#[cfg(test)]
-mod tests;

@@ -22,7 +22,7 @@ use crate::rule::schema_rule;
 use crate::text::{Arg, Spelled};
 use row_model::{Column, Kind, Metric, Schema};
 use std::alloc::Global;
-use vec_base::{List, Memory, Refusal};
+use vec_base::{DEFAULT_CHUNK_SIZE, List, Memory, Refusal};
 
 /// The schema that the parts declare, or the refusal for the least rule that they break.
 pub fn schema_of(alloc: Global, args: &[Arg]) -> Result<Schema, Refusal>
@@ -86,16 +86,16 @@ fn count_sizes(args: &[Arg]) -> usize
         .count()
 }
 
-/// The first chunk size, or 1024 where none is given.
+/// The first chunk size, or the default where none is given.
 fn chunk_size(args: &[Arg]) -> u16
-    ensures { result ≡ first_or 1024 (sizes_of (map narrow_arg args.now)) }
+    ensures { result ≡ first_or DEFAULT_CHUNK_SIZE (sizes_of (map narrow_arg args.now)) }
 {
     for arg in args {
         if let Arg::ChunkSize(size) = arg {
             return narrow(*size);
         }
     }
-    1024
+    DEFAULT_CHUNK_SIZE
 }
 
 /// The declared columns.
@@ -130,9 +130,9 @@ fn kind_of(spelled: Spelled) -> Kind
 fn narrow(number: u64) -> u16
     ensures { result ≡ narrow number }
 {
-    if number <= 65535 {
+    if number <= u16::MAX as u64 {
         number as u16
     } else {
-        65535
+        u16::MAX
     }
 }

@@ -1,3 +1,4 @@
+//! The rules of schemas.
 ghost use Rattle.std.specs.Prelude.{◌≡◌};
 ghost use Rattle.row_model.specs.Schemas.{is_key, is_vector, is_partition, is_metadata, is_auxiliary, count_of, has_some, has_column, has_twins, is_hidden_name, takes_hidden_name, is_eights, is_misfit_int8, is_misfit_bits, schema_fault};
 
@@ -162,88 +163,4 @@ fn has_misfit_bits(columns: &[Column]) -> bool
     ensures { result ≡ has_some is_misfit_bits columns.now }
 {
     columns.iter().any(|column| is_misfit_bits(column.kind))
-}
-
-#[cfg(test)]
-mod tests {
-    use super::*;
-    use row_model::Metric;
-    use std::alloc::Global;
-    use vec_base::{List, Memory, Txt};
-
-    const BYTES: Kind = Kind::Int8Vector(2, Metric::L2);
-
-    /// So many columns of a kind, whose names are the word once, twice and so on.
-    type Group = (&'static str, Kind, usize);
-
-    /// Groups of columns, a chunk size, and the rule that is to be answered.
-    const CASES: [(&[Group], u16, Option<u8>); 18] = [
-        (&[("e", BYTES, 1)], 1024, None),
-        (&[("a", Kind::TextMeta, 1)], 1024, Some(1)),
-        (&[("a", BYTES, 9), ("b", Kind::BitVector(8), 8)], 8, Some(2)),
-        (&[("e", BYTES, 1), ("p", Kind::IntPartition, 5)], 8, Some(3)),
-        (&[("e", BYTES, 1), ("m", Kind::BoolMeta, 17)], 8, Some(4)),
-        (&[("e", BYTES, 1), ("x", Kind::BlobAux, 17)], 8, Some(5)),
-        (
-            &[
-                ("i", Kind::IntKey, 1),
-                ("e", BYTES, 1),
-                ("t", Kind::TextKey, 1),
-            ],
-            8,
-            Some(6),
-        ),
-        (&[("e", BYTES, 2), ("ee", Kind::IntAux, 1)], 8, Some(7)),
-        (&[("e", BYTES, 1), ("rowid", Kind::TextAux, 1)], 8, Some(8)),
-        (&[("distance", BYTES, 1)], 8, Some(8)),
-        (&[("k", BYTES, 1)], 8, Some(8)),
-        (&[("e", Kind::Int8Vector(8193, Metric::L1), 1)], 8, Some(9)),
-        (&[("e", Kind::BitVector(12), 1)], 8, Some(10)),
-        (&[("e", BYTES, 1)], 4104, Some(12)),
-        (&[("e", BYTES, 1)], 9, Some(12)),
-        (&[("e", Kind::Int8Vector(0, Metric::L2), 17)], 0, Some(2)),
-        (
-            &[
-                ("b", Kind::BitVector(9), 1),
-                ("e", Kind::Int8Vector(0, Metric::L2), 1),
-            ],
-            0,
-            Some(9),
-        ),
-        (
-            &[
-                ("e", BYTES, 16),
-                ("t", Kind::TextKey, 1),
-                ("p", Kind::TextPartition, 4),
-            ],
-            4096,
-            None,
-        ),
-    ];
-
-    fn schema_of(alloc: Global, groups: &[Group], chunk_size: u16) -> Result<Schema, Memory> {
-        let mut columns = List::new(alloc);
-        for (word, kind, count) in groups {
-            let mut name = String::new(alloc);
-            for _ in 0..*count {
-                name.push_str(word)?;
-                let name = Txt::from_text(alloc, name.as_str())?;
-                columns.push(Column { name, kind: *kind })?;
-            }
-        }
-        Ok(Schema {
-            columns,
-            chunk_size,
-        })
-    }
-
-    #[test]
-    fn the_least_rule_is_answered(rt: HostRuntime) {
-        for (groups, chunk_size, wanted) in CASES {
-            match schema_of(rt.alloc(), groups, chunk_size) {
-                Ok(schema) => assert!(rt; schema_rule(&schema) == wanted),
-                Err(_) => assert!(rt; false),
-            }
-        }
-    }
 }

@@ -1,3 +1,4 @@
+//! Reading the parts of a column text.
 ghost use Rattle.std.specs.Prelude.{◌≡◌, true, IfOk};
 ghost use Rattle.std.specs.List.{list_all};
 ghost use Rattle.grammar.specs.inner.ReaderResults.{rest_of, Gives};
@@ -254,7 +255,7 @@ impl<'a> Item<'a> for Arg {
 
     ghost part = { factored_arg };
 
-    ghost formed = { has_name };
+    ghost well_formed = { has_name };
 
     ghost between = { sign (codes ",") };
 

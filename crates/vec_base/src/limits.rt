@@ -79,7 +79,7 @@ pub const LAST_ROWID: i64 = i64::MAX;
 pub const COUNT_COLUMN: u8 = 254;
 
 /// The number by which a refusal names `distance`.
-pub const DISTANCE_COLUMN: u8 = 255;
+pub const DISTANCE_COLUMN: u8 = u8::MAX;
 
 /// The index that stands for every later name of a statement too.
 pub const LAST_NAME_INDEX: u16 = u16::MAX;

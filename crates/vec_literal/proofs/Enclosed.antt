@@ -14,10 +14,11 @@ use Rattle.vec_literal.specs.inner.Stretches.{is_plain}
 use Rattle.hex.specs.Hex.{hex_digit_value}
 use Rattle.vec_literal.specs.Bits.{SpellsBits, IsBitsFault}
 use Rattle.vec_literal.specs.Int8.{SpellsInt8}
-use Rattle.vec_base.specs.Answers.{IsExactAnswer, Answers as Given}
+use Rattle.vec_base.specs.Answers.{IsExactAnswer}
 use Rattle.vec_literal.specs.declared.int8.LitFault.{LitFault}
 use Rattle.vec_literal.specs.declared.int8.LitFault.TheVariants.{Memory}
 use Rattle.vec_literal.proofs.BitsLaws.{digit_small}
+use Rattle.vec_literal.proofs.FaultLaws.{is_memory, never_refused}
 use Rattle.vec_literal.proofs.Int8Laws.{no_quote}
 use Rattle.vec_literal.specs.Tokens.{unquoted, enclosed, is_text_literal, is_hex_to_quote, begins_blob, is_blob_literal}
 use Rattle.vec_literal.specs.LiteralValues.{text_value, quoted_bytes, undoubled, paired_bytes, blob_value}
@@ -120,14 +121,6 @@ quoted_undoubled literal h =
 
 -- ---- blob literals
 
-abbrev is_memory : LitFault → Bool
-is_memory Memory = true
-is_memory _ = false
-
-starved_only : (result : Result (List ℕ) LitFault) (fault : LitFault) (bytes : List ℕ) → Given Memory result bytes → result ≡ Err fault → fault ≡ Memory
-starved_only result fault bytes (inl read) refused = absurd (cc (sym read ∙ refused))
-starved_only result fault bytes (inr starved) refused = ap (λ (q : Result (List ℕ) LitFault). unwrap_or (result_err q) Memory) (sym refused ∙ starved)
-
 digit_same : (c v : ℕ) → hex_digit_value c ≡ Some v → digit_value c ≡ v
 digit_same c v h = grind (arith, nat_tests)
 
@@ -204,9 +197,7 @@ blob_readable literal result fault h exact told refused same other =
     let digits : slice_range literal 2 (length literal - 1) ≡ p.digits =
     ap (λ (n : ℕ). take n (drop 2 literal)) size ∙ (ap (λ (z : List ℕ). take (length p.digits) z) p.rest ∙ take_at p.digits (39 ∷ []) (length p.digits) refl) in
     let (bytes, spelled) = digits_spell p.digits (ap is_hex_to_quote (sym p.rest) ∙ (and_parts _ _ h).1) in
-    let starved = starved_only result fault bytes (exact.only_value bytes (subst (λ (z : List ℕ). SpellsBits z bytes) (sym digits) spelled)) refused in
-    let no : true ≡ false = ap is_memory (sym starved ∙ same) ∙ other in
-    absurd cc
+    never_refused result fault told bytes (exact.only_value bytes (subst (λ (z : List ℕ). SpellsBits z bytes) (sym digits) spelled)) refused same other
 
 pub blob_spelled : (literal bytes : List ℕ) → is_blob_literal literal ≡ true → SpellsBits (slice_range literal 2 (length literal - 1)) bytes → bytes ≡ blob_value literal
 blob_spelled literal bytes h s =

@@ -2,6 +2,7 @@ pub mod Adding
 pub mod BitsLaws
 pub mod Decimals
 pub mod Enclosed
+pub mod FaultLaws
 pub mod Following
 pub mod Int8Complete
 pub mod Int8Digits

@@ -1,3 +1,4 @@
+//! The literal of a bit vector.
 ghost use Rattle.std.specs.Prelude.{◌≡◌, ◌⊎◌, ℕ, List, IfOk, IfErr};
 ghost use Rattle.hex.specs.Hex.{encode_upper};
 ghost use Rattle.vec_base.specs.Answers.{IsExactAnswer};

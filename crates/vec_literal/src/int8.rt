@@ -1,3 +1,4 @@
+//! The literal of an int8 vector.
 ghost use Rattle.std.specs.Prelude.{◌≡◌, ◌⊎◌, ℕ, [], List, IfOk, IfErr, OnOk};
 ghost use Rattle.vec_literal.specs.Int8.{SpellsInt8, is_space};
 ghost use Rattle.vec_text.specs.ValueTexts.{int8_text};

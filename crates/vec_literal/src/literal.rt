@@ -1,3 +1,4 @@
+//! What text and blob literals stand for.
 ghost use Rattle.std.specs.Prelude.{◌≡◌, true, false, IfOk};
 ghost use Rattle.vec_literal.specs.Tokens.{is_text_literal, is_blob_literal};
 ghost use Rattle.vec_literal.specs.LiteralValues.{text_value, quoted_bytes, undoubled, blob_value};

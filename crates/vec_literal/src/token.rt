@@ -1,3 +1,4 @@
+//! Tokens, one after another.
 ghost use Rattle.std.specs.Char.{is_ascii_digit, is_ascii_hexdigit};
 ghost use Rattle.std.specs.List.{prefix_len};
 ghost use Rattle.std.specs.Prelude.{MatchOption, drop, length, true, ◌<◌, ◌≡◌, ◌≤◌};

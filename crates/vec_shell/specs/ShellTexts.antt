@@ -4,7 +4,7 @@ use Rattle.vec_base.specs.declared.refusal.Refusal.{Refusal}
 use Rattle.vec_base.specs.declared.refusal.Refusal.TheVariants.{Unsupported}
 use Rattle.row_model.specs.declared.statement.Statement.{Statement}
 use Rattle.row_model.specs.DirectStatements.{is_direct}
-use Rattle.vec_sql.specs.StatementReading.{SpellsStatement, IsRefusal}
+use Rattle.sql_reader.specs.StatementReading.{SpellsStatement, IsRefusal}
 
 -- the text spells a statement of a transaction, or EXPLAIN
 abbrev pub SpellsUnserved : List ℕ → Type 0

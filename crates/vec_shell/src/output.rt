@@ -10,7 +10,7 @@ use std::alloc::Global;
 use vec_base::{Bytes, Memory, Sink, WriteOutcome};
 
 /// How many bytes are held before they go to the sink.
-const PIECE: usize = 4096;
+const PIECE: usize = 4 << 10;
 
 /// The room that is taken at once: for less than a piece that is held, and a further one.
 const ROOM: usize = 2 * PIECE;

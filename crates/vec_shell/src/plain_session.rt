@@ -9,9 +9,9 @@ ghost use Rattle.row_model.specs.Step.{answer_of};
 use crate::session::Session;
 use plain_engine::PlainEngine;
 use row_model::{Reply, Request};
+use sql_reader::read_statement;
 use std::alloc::Global;
 use vec_base::{List, Memory, Refusal, Value};
-use vec_sql::read_statement;
 
 /// The id of the first session that is opened.
 pub(crate) const FIRST: u32 = 1;

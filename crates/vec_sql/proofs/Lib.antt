@@ -1,16 +1,7 @@
-pub mod Answering
-pub mod Filled
-pub mod Making
-pub mod Meant
-pub mod Noting
-pub mod OneMeaning
 pub mod ReadBack
-pub mod Spelled
-pub mod StatementLines
 pub mod TextAdds
 pub mod TextLexemes
 pub mod TextParts
 pub mod TextStatements
 pub mod TextTerms
-pub mod WellFormed
 pub mod Written

@@ -38,7 +38,8 @@ use Rattle.row_model.specs.Schemas.{IsValidSchema}
 use Rattle.row_model.specs.WellFormed.{IsWellFormed, IsWellFormedInsert, IsWellFormedUpdate, IsWellFormedDelete, IsWellFormedSelect, is_term, is_whole_test, are_items, is_filled}
 use Rattle.vec0_columns.specs.inner.CanonicalLexemes.{declared_lexemes, column_lexemes, canonical_lexemes}
 use Rattle.vec0_columns.proofs.Written.{small_word, canonical_before}
-use Rattle.vec_sql.specs.CanonicalStatements.{behind, separated, listed, name_text, group_text, op_text, test_text, term_text, where_text, assign_text, items_text, order_text, limit_text, select_text, insert_text, update_text, delete_text, begin_text, statement_text}
+use Rattle.vec_text.specs.Lists.{behind, separated}
+use Rattle.vec_sql.specs.CanonicalStatements.{listed, name_text, group_text, op_text, test_text, term_text, where_text, assign_text, items_text, order_text, limit_text, select_text, insert_text, update_text, delete_text, begin_text, statement_text}
 use Rattle.row_model.specs.RepresentableStatements.{AreRepresentable, IsRepresentableTest, IsRepresentableTerm, IsRepresentableAssign, IsRepresentableLimit, IsRepresentableSelect, IsRepresentableStatement}
 use Rattle.vec_sql.proofs.TextLexemes.{behind_lexemes, separated_lexemes, listed_lexemes, name_lexemes, group_lexemes, test_lexemes, term_lexemes, where_lexemes, assign_lexemes, items_lexemes, order_lexemes, limit_lexemes, select_lexemes, create_lexemes, insert_lexemes, update_lexemes, delete_lexemes, begin_lexemes, statement_lexemes}
 

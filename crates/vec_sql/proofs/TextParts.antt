@@ -15,11 +15,11 @@ use Rattle.grammar.proofs.Lexemes.{LexemesSpell, of_means, of_word, of_mark}
 use Rattle.grammar.proofs.LexemesGive.{LexemesGive, give_known, give_seq, give_means, give_second, give_first, give_left, give_right, give_nothing, give_another}
 use Rattle.grammar.proofs.LiteralLexemes.{of_text, of_blob, of_signed_number, give_placed_text}
 use Rattle.row_model.specs.WellFormed.{is_filled}
-use Rattle.vec_sql.specs.declared.given.Given.{Given}
-use Rattle.vec_sql.specs.declared.given.Given.TheVariants as givens
-use Rattle.vec_sql.specs.GivenStatements.{concerns_of, uses_of}
-use Rattle.vec_sql.specs.StatementReading.{IsFine, Each, MeansValue}
-use Rattle.vec_sql.specs.StatementGrammar.{in_parentheses, vec_int8, vec_bit, value}
+use Rattle.sql_reader.specs.declared.given.Given.{Given}
+use Rattle.sql_reader.specs.declared.given.Given.TheVariants as givens
+use Rattle.sql_reader.specs.GivenStatements.{checks_of, uses_of}
+use Rattle.sql_reader.specs.StatementReading.{Passes, Each, MeansValue}
+use Rattle.sql_reader.specs.StatementGrammar.{in_parentheses, vec_int8, vec_bit, value}
 use Rattle.vec_sql.proofs.TextLexemes.{behind_lexemes, separated_lexemes, listed_lexemes}
 
 -- ---- lists
@@ -69,7 +69,7 @@ parentheses_given g = give_second (of_mark (codes "(") refl) (give_first g (of_m
 
 -- texts of vectors spell vectors, and there is no parameter
 pub record ArePlain (all : List Given) : Type 0 where
-  pub fine : AllByRecursion IsFine (flat_map concerns_of all)
+  pub passed : AllByRecursion Passes (flat_map checks_of all)
   pub unused : flat_map uses_of all ≡ []
 
 -- what is given stands for the value
@@ -79,13 +79,13 @@ pub record StandsFor (given : Given) (v : Value) : Type 0 where
 
 -- a value that is given as it is
 as_it_is : (v : Value) → StandsFor (givens.Value v) v
-as_it_is v = record { means = refl; plain = record { fine = tt; unused = refl } }
+as_it_is v = record { means = refl; plain = record { passed = tt; unused = refl } }
 
 -- the text of an int8 vector, at any place
 text_stands : (vector text : List ℕ) (place : ℕ) → AllBytes vector → text ≡ int8_text vector → StandsFor (givens.Int8Text place text) (values.Int8 vector)
 text_stands vector text place h e =
     let spelled : SpellsInt8 text vector = subst (λ (z : List ℕ). SpellsInt8 z vector) (sym e) (bytes_spell vector h) in
-    record { means = (vector, spelled, refl); plain = record { fine = ((vector, spelled), tt); unused = refl } }
+    record { means = (vector, spelled, refl); plain = record { passed = ((vector, spelled), tt); unused = refl } }
 
 int8_given : (vector : List ℕ) → AllBytes vector → LexemesGive vec_int8 (value_lexemes (values.Int8 vector)) (λ g. StandsFor g (values.Int8 vector))
 unfolding vec_int8

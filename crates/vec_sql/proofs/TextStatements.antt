@@ -26,16 +26,16 @@ use Rattle.row_model.specs.WellFormed.{IsWellFormed, IsWellFormedInsert, IsWellF
 use Rattle.vec0_columns.specs.inner.CanonicalLexemes.{canonical_lexemes}
 use Rattle.vec0_columns.specs.inner.CanonicalParts.{parts_of}
 use Rattle.vec0_columns.proofs.RoundTrip.{name_spelled, canonical_spelled, schema_back, no_fault}
-use Rattle.vec_sql.specs.declared.given.Given.{Given}
-use Rattle.vec_sql.specs.declared.given.Group.{Group}
-use Rattle.vec_sql.specs.declared.given.GivenSelect.{GivenSelect}
-use Rattle.vec_sql.specs.declared.given.GivenStatement.{GivenStatement}
-use Rattle.vec_sql.specs.declared.given.GivenStatement.TheVariants as statements
-use Rattle.vec_sql.specs.GivenStatements.{concerns_of, in_limit, in_select, in_groups, in_terms, in_sets, group_concerns, uses, item_count, items_in, terms_in}
+use Rattle.sql_reader.specs.declared.given.Given.{Given}
+use Rattle.sql_reader.specs.declared.given.Group.{Group}
+use Rattle.sql_reader.specs.declared.given.GivenSelect.{GivenSelect}
+use Rattle.sql_reader.specs.declared.given.GivenStatement.{GivenStatement}
+use Rattle.sql_reader.specs.declared.given.GivenStatement.TheVariants as statements
+use Rattle.sql_reader.specs.GivenStatements.{checks_of, in_limit, in_select, in_groups, in_terms, in_sets, group_checks, uses, item_count, items_in, terms_in}
 use Rattle.row_model.specs.RepresentableStatements.{AreRepresentable, IsRepresentableTerm, IsRepresentableAssign, IsRepresentableLimit, IsRepresentableSelect, IsRepresentableStatement}
-use Rattle.vec_sql.specs.StatementReading.{IsFine, Each, EachOption, MeansValue, MeansTerm, MeansAssign, MeansGroup, MeansSelect, Means, AllFine, count_fault, rule_fault}
-use Rattle.vec_sql.proofs.Filled.{filled_by}
-use Rattle.vec_sql.specs.StatementGrammar.{word_for, may_say, group, by_distance, by_rowid, order, items_part, limit, select, create, drop_table, insert, update, delete, explain, begin, commit, rollback_to, rollback, savepoint, release, body, statement}
+use Rattle.sql_reader.specs.StatementReading.{Passes, Each, EachOption, MeansValue, MeansTerm, MeansAssign, MeansGroup, MeansSelect, Means, PassesChecks, count_fault, rule_fault}
+use Rattle.sql_reader.proofs.Filled.{filled_by}
+use Rattle.sql_reader.specs.StatementGrammar.{word_for, may_say, group, by_distance, by_rowid, order, items_part, limit, select, create, drop_table, insert, update, delete, explain, begin, commit, rollback_to, rollback, savepoint, release, body, statement}
 use Rattle.vec_sql.proofs.TextLexemes.{listed_lexemes, name_lexemes, group_lexemes, items_lexemes, order_lexemes, limit_lexemes, select_lexemes, create_lexemes, insert_lexemes, update_lexemes, delete_lexemes, begin_lexemes, statement_lexemes}
 use Rattle.vec_sql.proofs.TextParts.{each_more, each_length, each_same, AllGive, list_given, ArePlain, StandsFor, value_given}
 use Rattle.vec_sql.proofs.TextTerms.{both_good, none_plain, both_plain, values_plain, values_mean, IsTerm, where_given, terms_plain, IsAssign, sets_given, sets_plain, IsRow, row_given}
@@ -157,13 +157,13 @@ rows_all count (row ∷ rows) some sized held =
     (row_given row (filled_by row (omega (arith, size, some))) held.0, rows_all count rows some p.1 held.1)
 
 -- each row has a value for each name, and texts of vectors that spell vectors
-rows_fine : (count : ℕ) (gs : List Group) (rows : List (List Value)) → Each IsRow gs rows → list_all (λ row. length row == count) rows ≡ true → AllByRecursion IsFine (flat_map (group_concerns count) gs)
+rows_fine : (count : ℕ) (gs : List Group) (rows : List (List Value)) → Each IsRow gs rows → list_all (λ row. length row == count) rows ≡ true → AllByRecursion Passes (flat_map (group_checks count) gs)
 rows_fine count [] [] h sized = tt
 rows_fine count (g ∷ gs) (row ∷ rows) h sized =
     let p = and_parts (length row == count) (list_all (λ r. length r == count) rows) sized in
     let size : (length g.values == count) ≡ true = ap (λ (n : ℕ). n == count) (each_length StandsFor g.values row h.0) ∙ p.0 in
-    both_good IsFine (group_concerns count g) (flat_map (group_concerns count) gs)
-    (both_good IsFine (flat_map concerns_of g.values) _ (values_plain g.values row h.0).fine (size, tt)) (rows_fine count gs rows h.1 p.1)
+    both_good Passes (group_checks count g) (flat_map (group_checks count) gs)
+    (both_good Passes (flat_map checks_of g.values) _ (values_plain g.values row h.0).passed (size, tt)) (rows_fine count gs rows h.1 p.1)
 rows_fine count [] (row ∷ rows) h sized = absurd h
 rows_fine count (g ∷ gs) [] h sized = absurd h
 
@@ -177,7 +177,7 @@ rows_plain (g ∷ gs) [] h = absurd h
 
 -- what is given is the statement, without parameters
 pub record IsStatement (given : GivenStatement) (s : Statement) : Type 0 where
-  pub fine : AllFine given
+  pub passed : PassesChecks given
   pub unused : uses given ≡ []
   pub counts : count_fault given ≡ None
   pub rules : rule_fault given ≡ None
@@ -194,7 +194,7 @@ create_given table schema n valid =
     give_means (λ x. statements.Create x.0 x.1) (λ g. IsStatement g (read.Create table schema))
     (λ x h. subst (λ z. IsStatement (statements.Create z x.1) (read.Create table schema)) (sym h.0)
     (subst (λ z. IsStatement (statements.Create table z) (read.Create table schema)) (sym h.1)
-    (record { fine = tt; unused = refl; counts = refl; rules = no_fault schema valid.rules; means = ap (λ z. read.Create table z) (sym (schema_back schema)) })))
+    (record { passed = tt; unused = refl; counts = refl; rules = no_fault schema valid.rules; means = ap (λ z. read.Create table z) (sym (schema_back schema)) })))
     (give_second (of_word (codes "CREATE") (codes "CREATE") refl)
     (give_second (of_word (codes "VIRTUAL") (codes "VIRTUAL") refl)
     (give_second (of_word (codes "TABLE") (codes "TABLE") refl)
@@ -207,7 +207,7 @@ drop_given : (table : List ℕ) → is_name table ≡ true → LexemesGive drop_
 unfolding drop_table
 drop_given table n =
     give_means (λ name. statements.Drop name) (λ g. IsStatement g (read.Drop table))
-    (λ name e. record { fine = tt; unused = refl; counts = refl; rules = refl; means = ap (λ z. read.Drop z) (sym e) })
+    (λ name e. record { passed = tt; unused = refl; counts = refl; rules = refl; means = ap (λ z. read.Drop z) (sym e) })
     (give_second (of_word (codes "DROP") (codes "DROP") refl)
     (give_second (of_word (codes "TABLE") (codes "TABLE") refl) (give_known (λ (z : List ℕ). z ≡ table) refl (name_spelled table n))))
 
@@ -218,7 +218,7 @@ insert_given chosen formed held =
     subst (λ (z : List Lexeme). LexemesGive insert (word_lexeme (codes "INSERT") ∷ word_lexeme (codes "INTO") ∷ word_lexeme chosen.table ∷ mark_lexeme (codes "(") ∷ z) (λ g. IsStatement g (read.Insert chosen))) seam
     (give_means (λ x. statements.Insert x.0 x.1.0 x.1.1) (λ g. IsStatement g (read.Insert chosen))
     (λ x h. record {
-      fine = subst (λ (names : List (List ℕ)). AllByRecursion IsFine (flat_map (group_concerns (length names)) x.1.1)) (sym h.1.0) (rows_fine (length chosen.columns) x.1.1 chosen.rows h.1.1 formed.one_value_each);
+      passed = subst (λ (names : List (List ℕ)). AllByRecursion Passes (flat_map (group_checks (length names)) x.1.1)) (sym h.1.0) (rows_fine (length chosen.columns) x.1.1 chosen.rows h.1.1 formed.one_value_each);
       unused = (rows_plain x.1.1 chosen.rows h.1.1).unused;
       counts = refl;
       rules = refl;
@@ -239,7 +239,7 @@ update_given chosen formed sets where_terms =
     give_means (λ x. statements.Update x.0 x.1.0 x.1.1) (λ g. IsStatement g (read.Update chosen))
     (λ x h. (let plain : ArePlain (in_sets x.1.0 ++ in_terms x.1.1) = both_plain (in_sets x.1.0) (in_terms x.1.1) (sets_plain x.1.0 chosen.sets h.1.0) (terms_plain x.1.1 chosen.where_terms h.1.1) in
     record {
-      fine = plain.fine;
+      passed = plain.passed;
       unused = plain.unused;
       counts = counted (statements.Update x.0 x.1.0 x.1.1) (omega arith) (omega (arith, each_length IsTerm x.1.1 chosen.where_terms h.1.1, few));
       rules = refl;
@@ -266,7 +266,7 @@ delete_given chosen formed where_terms =
     give_means (λ x. statements.Delete x.0 x.1) (λ g. IsStatement g (read.Delete chosen))
     (λ x h. (let plain : ArePlain (in_terms x.1) = terms_plain x.1 chosen.where_terms h.1 in
     record {
-      fine = plain.fine;
+      passed = plain.passed;
       unused = plain.unused;
       counts = counted (statements.Delete x.0 x.1) (omega arith) (omega (arith, each_length IsTerm x.1 chosen.where_terms h.1, few));
       rules = refl;
@@ -279,14 +279,14 @@ delete_given chosen formed where_terms =
 chosen_given : (chosen : SelectRows) → IsWellFormedSelect chosen → IsRepresentableSelect chosen → LexemesGive (means (λ g. statements.Select g) select) (select_lexemes chosen) (λ g. IsStatement g (read.Select chosen))
 chosen_given chosen formed held =
     give_means (λ g. statements.Select g) (λ g. IsStatement g (read.Select chosen))
-    (λ g h. record { fine = h.plain.fine; unused = h.plain.unused; counts = counted (statements.Select g) h.few_items h.few_terms; rules = refl; means = (chosen, h.means, refl) })
+    (λ g h. record { passed = h.plain.passed; unused = h.plain.unused; counts = counted (statements.Select g) h.few_items h.few_terms; rules = refl; means = (chosen, h.means, refl) })
     (select_given chosen formed held)
 
 explain_given : (chosen : SelectRows) → IsWellFormedSelect chosen → IsRepresentableSelect chosen → LexemesGive explain (statement_lexemes (read.Explain chosen)) (λ g. IsStatement g (read.Explain chosen))
 unfolding explain
 explain_given chosen formed held =
     give_means (λ g. statements.Explain g) (λ g. IsStatement g (read.Explain chosen))
-    (λ g h. record { fine = h.plain.fine; unused = h.plain.unused; counts = counted (statements.Explain g) h.few_items h.few_terms; rules = refl; means = (chosen, h.means, refl) })
+    (λ g h. record { passed = h.plain.passed; unused = h.plain.unused; counts = counted (statements.Explain g) h.few_items h.few_terms; rules = refl; means = (chosen, h.means, refl) })
     (give_second (of_word (codes "EXPLAIN") (codes "EXPLAIN") refl) (select_given chosen formed held))
 
 -- a word that is left out
@@ -345,8 +345,8 @@ release_given name n =
     (of_second (may_say (codes "SAVEPOINT")) a_name [] (word_lexeme name ∷ []) None name (left_out (codes "SAVEPOINT")) (name_spelled name n)))
 
 -- a statement without values
-simply : (given : GivenStatement) (s : Statement) → AllFine given → uses given ≡ [] → count_fault given ≡ None → rule_fault given ≡ None → Means [] given s → IsStatement given s
-simply given s f u c r m = record { fine = f; unused = u; counts = c; rules = r; means = m }
+simply : (given : GivenStatement) (s : Statement) → PassesChecks given → uses given ≡ [] → count_fault given ≡ None → rule_fault given ≡ None → Means [] given s → IsStatement given s
+simply given s f u c r m = record { passed = f; unused = u; counts = c; rules = r; means = m }
 
 body_given : (s : Statement) → IsWellFormed s → IsRepresentableStatement s → LexemesGive body (statement_lexemes s) (λ g. IsStatement g s)
 unfolding body

@@ -21,17 +21,17 @@ use Rattle.row_model.specs.declared.statement.Test.{Test}
 use Rattle.row_model.specs.declared.statement.Test.TheVariants as asked
 use Rattle.row_model.specs.WellFormed.{is_filled, is_whole_test, is_term}
 use Rattle.vec0_columns.proofs.RoundTrip.{name_spelled}
-use Rattle.vec_sql.specs.declared.given.Given.{Given}
-use Rattle.vec_sql.specs.declared.given.Group.{Group}
-use Rattle.vec_sql.specs.declared.given.GivenAssign.{GivenAssign}
-use Rattle.vec_sql.specs.declared.given.GivenTest.{GivenTest}
-use Rattle.vec_sql.specs.declared.given.GivenTest.TheVariants as tests
-use Rattle.vec_sql.specs.declared.given.GivenTerm.{GivenTerm}
+use Rattle.sql_reader.specs.declared.given.Given.{Given}
+use Rattle.sql_reader.specs.declared.given.Group.{Group}
+use Rattle.sql_reader.specs.declared.given.GivenAssign.{GivenAssign}
+use Rattle.sql_reader.specs.declared.given.GivenTest.{GivenTest}
+use Rattle.sql_reader.specs.declared.given.GivenTest.TheVariants as tests
+use Rattle.sql_reader.specs.declared.given.GivenTerm.{GivenTerm}
 use Rattle.vec_sql.specs.CanonicalStatements.{op_text}
-use Rattle.vec_sql.specs.GivenStatements.{concerns_of, uses_of, in_test, in_terms, in_sets}
+use Rattle.sql_reader.specs.GivenStatements.{checks_of, uses_of, in_test, in_terms, in_sets}
 use Rattle.row_model.specs.RepresentableStatements.{AreRepresentable, IsRepresentableTest, IsRepresentableTerm, IsRepresentableAssign}
-use Rattle.vec_sql.specs.StatementReading.{IsFine, Each, MeansValue, MeansTest, MeansTerm, MeansAssign}
-use Rattle.vec_sql.specs.StatementGrammar.{or_none, value, group, op, term_of, comparison, member, match_of, term, where_part, assignment}
+use Rattle.sql_reader.specs.StatementReading.{Passes, Each, MeansValue, MeansTest, MeansTerm, MeansAssign}
+use Rattle.sql_reader.specs.StatementGrammar.{or_none, value, group, op, term_of, comparison, member, match_of, term, where_part, assignment}
 use Rattle.vec_sql.proofs.TextLexemes.{listed_lexemes, group_lexemes, test_lexemes, term_lexemes, where_lexemes, assign_lexemes}
 use Rattle.vec_sql.proofs.TextParts.{each_more, AllGive, separated_given, list_given, parentheses_given, ArePlain, StandsFor, value_given}
 
@@ -43,11 +43,11 @@ both_good P [] ys h k = k
 both_good P (x ∷ xs) ys h k = (h.0, both_good P xs ys h.1 k)
 
 pub none_plain : ArePlain []
-none_plain = record { fine = tt; unused = refl }
+none_plain = record { passed = tt; unused = refl }
 
 pub both_plain : (xs ys : List Given) → ArePlain xs → ArePlain ys → ArePlain (xs ++ ys)
 both_plain xs ys a b = record {
-  fine = subst (λ zs. AllByRecursion IsFine zs) (sym (flat_map-append concerns_of xs ys)) (both_good IsFine (flat_map concerns_of xs) (flat_map concerns_of ys) a.fine b.fine);
+  passed = subst (λ zs. AllByRecursion Passes zs) (sym (flat_map-append checks_of xs ys)) (both_good Passes (flat_map checks_of xs) (flat_map checks_of ys) a.passed b.passed);
   unused = flat_map-append uses_of xs ys ∙ ap (λ zs. zs ++ flat_map uses_of ys) a.unused ∙ b.unused;
 }
 

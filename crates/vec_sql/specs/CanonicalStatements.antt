@@ -1,9 +1,9 @@
 -- The one text that is written for a statement.
 use Rattle.std.specs.Prelude.{ℕ, List, [], ◌∷◌, ◌++◌, codes, Option, Some, None, Bool, true, false}
-use Rattle.std.specs.List.{flat_map}
 use Rattle.vec_base.specs.declared.value.Op.{Op}
 use Rattle.vec_base.specs.declared.value.Op.TheVariants.{Eq, Ne, Lt, Le, Gt, Ge}
 use Rattle.vec_base.specs.declared.value.Value.{Value}
+use Rattle.vec_text.specs.Lists.{separated}
 use Rattle.vec_text.specs.ValueTexts.{value_text}
 use Rattle.row_model.specs.CanonicalColumns.{canonical_columns}
 use Rattle.row_model.specs.declared.statement.Assign.{Assign}
@@ -22,15 +22,6 @@ use Rattle.row_model.specs.declared.statement.Test.TheVariants.{Compare, Member,
 use Rattle.row_model.specs.declared.statement.Update.{Update as UpdateRows}
 
 -- ---- lists
-
--- the texts of the elements behind another one, each with the separator before it
-abbrev pub behind : {A : Type 0} → List ℕ → (A → List ℕ) → List A → List ℕ
-behind separator text xs = flat_map (λ x. separator ++ text x) xs
-
--- the texts of the elements, with the separator between them
-abbrev pub separated : {A : Type 0} → List ℕ → (A → List ℕ) → List A → List ℕ
-separated separator text [] = []
-separated separator text (x ∷ xs) = text x ++ behind separator text xs
 
 -- the parts of a list
 abbrev pub listed : {A : Type 0} → (A → List ℕ) → List A → List ℕ

@@ -1,5 +1,2 @@
+-- CanonicalStatements: the one text that is written for a statement.
 pub mod CanonicalStatements
-pub mod GivenStatements
-pub mod StatementGrammar
-pub mod StatementReading
-pub mod inner

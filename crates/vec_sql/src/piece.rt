@@ -1,5 +1,7 @@
+//! Lists of the parts of a statement, written with a separator between them.
 ghost use Rattle.std.specs.Prelude.{◌≡◌, ℕ, ◌++◌, List as Seq, codes, string_bytes, OnOk};
-ghost use Rattle.vec_sql.specs.CanonicalStatements.{behind, separated, listed};
+ghost use Rattle.vec_text.specs.Lists.{behind, separated};
+ghost use Rattle.vec_sql.specs.CanonicalStatements.{listed};
 
 use std::alloc::AllocError;
 use vec_base::List;

@@ -1,12 +1,13 @@
+//! The parts of a statement as they are written.
 ghost use Rattle.std.specs.Prelude.{◌≡◌, ◌++◌, codes, string_bytes, OnOk};
 ghost use Rattle.vec_text.specs.ValueTexts.{value_text};
 ghost use Rattle.vec_sql.specs.CanonicalStatements.{group_text, op_text, test_text};
 
-use crate::piece::{Piece, write_listed};
+use crate::piece::Piece;
 use row_model::{Assign, Constraint, Test};
 use std::alloc::AllocError;
 use vec_base::{List, Op, Txt, Value};
-use vec_text::put_value;
+use vec_text::{put_separated, put_value};
 
 impl Piece for Txt {
     ghost use Rattle.vec_sql.specs.CanonicalStatements.{name_text};
@@ -15,16 +16,6 @@ impl Piece for Txt {
 
     fn write(&self, text: &mut String) -> Result<(), AllocError> {
         text.push_str(self.as_text())
-    }
-}
-
-impl Piece for Value {
-    ghost use Rattle.vec_text.specs.ValueTexts.{value_text};
-
-    ghost text_of = { value_text };
-
-    fn write(&self, text: &mut String) -> Result<(), AllocError> {
-        put_value(text, self)
     }
 }
 
@@ -66,7 +57,7 @@ fn write_group(text: &mut String, values: &List<Value>) -> Result<(), AllocError
     ensures text { OnOk result (string_bytes text.new ≡ string_bytes text.old ++ group_text values.now) }
 {
     text.push_str("(")?;
-    write_listed(text, values)?;
+    put_separated(text, ", ", values.as_slice())?;
     text.push_str(")")
 }
 

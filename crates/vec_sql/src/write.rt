@@ -1,49 +1,48 @@
+//! Writing the canonical text of a statement.
 ghost use Rattle.std.specs.Prelude.{◌≡◌, ◌≤◌, [], ◌++◌, codes, length, string_bytes, IfOk, OnOk};
-ghost use Rattle.std.specs.List.{AllByRecursion};
 ghost use Rattle.row_model.specs.CanonicalColumns.{canonical_columns};
 ghost use Rattle.row_model.specs.WellFormed.{IsWellFormed};
 ghost use Rattle.vec_sql.specs.CanonicalStatements.{begin_text, where_text, items_text, order_text, limit_text, select_text, insert_text, update_text, delete_text, statement_text};
-ghost use Rattle.vec_sql.specs.StatementReading.{SpellsStatement};
+ghost use Rattle.sql_reader.specs.StatementReading.{SpellsStatement};
 
 use crate::piece::{Piece, write_listed, write_separated};
 use row_model::{Constraint, Delete, Insert, Items, Order, Schema, Select, Statement, Update};
 use std::alloc::{AllocError, Global};
-use vec_base::{List, Memory, Txt, Value};
-use vec_text::put_value;
-use vec0_columns::write_columns;
+use vec_base::{List, MOST_TEXT_BYTES, Memory, Txt, Value};
+use vec_text::{Takes, put_value};
+use vec0_columns::put_columns;
 
 /// The canonical text of the statement. Where the statement is well formed and the text is not too long, reading the text
 /// without parameters gives the statement back.
 pub fn write_statement(alloc: Global, statement: &Statement) -> Result<Txt, Memory>
     ensures text { IfOk result (λ text. text ≡ statement_text statement.now) }
-    ensures reads_back { IsWellFormed statement.now → IfOk result (λ text. length text ≤ 4194304 → SpellsStatement text [] statement.now) }
+    ensures reads_back { IsWellFormed statement.now → IfOk result (λ text. length text ≤ MOST_TEXT_BYTES → SpellsStatement text [] statement.now) }
 {
     statement.representable();
     let mut text = String::new(alloc);
-    write(alloc, &mut text, statement)?;
+    write(&mut text, statement)?;
     Ok(Txt::from_string(text))
 }
 
 /// Writes the statement.
-fn write(alloc: Global, text: &mut String, statement: &Statement) -> Result<(), Memory>
+fn write(text: &mut String, statement: &Statement) -> Result<(), AllocError>
     ensures text { OnOk result (string_bytes text.new ≡ string_bytes text.old ++ statement_text statement.now) }
 {
     match statement {
-        Statement::Create(table, schema) => write_create(alloc, text, table, schema)?,
-        Statement::Drop(table) => write_two(text, "DROP TABLE ", table.as_text())?,
-        Statement::Insert(insert) => write_insert(text, insert)?,
-        Statement::Update(update) => write_update(text, update)?,
-        Statement::Delete(delete) => write_delete(text, delete)?,
-        Statement::Select(select) => write_select(text, select)?,
-        Statement::Explain(select) => write_explain(text, select)?,
-        Statement::Begin(immediate) => text.push_str(begin_words(*immediate))?,
-        Statement::Commit => text.push_str("COMMIT")?,
-        Statement::Rollback => text.push_str("ROLLBACK")?,
-        Statement::RollbackTo(name) => write_two(text, "ROLLBACK TO ", name.as_text())?,
-        Statement::Savepoint(name) => write_two(text, "SAVEPOINT ", name.as_text())?,
-        Statement::Release(name) => write_two(text, "RELEASE ", name.as_text())?,
+        Statement::Create(table, schema) => write_create(text, table, schema),
+        Statement::Drop(table) => write_two(text, "DROP TABLE ", table.as_text()),
+        Statement::Insert(insert) => write_insert(text, insert),
+        Statement::Update(update) => write_update(text, update),
+        Statement::Delete(delete) => write_delete(text, delete),
+        Statement::Select(select) => write_select(text, select),
+        Statement::Explain(select) => write_explain(text, select),
+        Statement::Begin(immediate) => text.push_str(begin_words(*immediate)),
+        Statement::Commit => text.push_str("COMMIT"),
+        Statement::Rollback => text.push_str("ROLLBACK"),
+        Statement::RollbackTo(name) => write_two(text, "ROLLBACK TO ", name.as_text()),
+        Statement::Savepoint(name) => write_two(text, "SAVEPOINT ", name.as_text()),
+        Statement::Release(name) => write_two(text, "RELEASE ", name.as_text()),
     }
-    Ok(())
 }
 
 /// The words for BEGIN.
@@ -66,21 +65,14 @@ fn write_two(text: &mut String, first: &str, second: &str) -> Result<(), AllocEr
 }
 
 /// Writes a CREATE.
-fn write_create(
-    alloc: Global,
-    text: &mut String,
-    table: &Txt,
-    schema: &Schema,
-) -> Result<(), Memory>
+fn write_create(text: &mut String, table: &Txt, schema: &Schema) -> Result<(), AllocError>
     ensures { OnOk result (string_bytes text.new ≡ string_bytes text.old ++ (codes "CREATE VIRTUAL TABLE " ++ table.now ++ codes " USING vec0(" ++ canonical_columns schema.now ++ codes ")")) }
 {
-    let columns = write_columns(alloc, schema)?;
-    text.push_str("CREATE VIRTUAL TABLE ")?;
-    table.write(text)?;
-    text.push_str(" USING vec0(")?;
-    columns.write(text)?;
-    text.push_str(")")?;
-    Ok(())
+    text.put("CREATE VIRTUAL TABLE ")?;
+    text.put(table.as_text())?;
+    text.put(" USING vec0(")?;
+    put_columns(text, schema)?;
+    text.put(")")
 }
 
 /// Writes an INSERT.
@@ -180,6 +172,3 @@ fn write_limit(text: &mut String, limit: &Option<Value>) -> Result<(), AllocErro
         }
     }
 }
-
-#[cfg(test)]
-mod tests;

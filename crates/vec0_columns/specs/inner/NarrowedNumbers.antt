@@ -6,8 +6,11 @@ use Rattle.vec0_columns.specs.declared.text.Spelled.TheVariants.{Int8, Bits, Pla
 use Rattle.vec0_columns.specs.declared.text.Arg.{Arg}
 use Rattle.vec0_columns.specs.declared.text.Arg.TheVariants as args
 
+abbrev pub greatest : ℕ
+greatest = 65535
+
 abbrev pub narrow : ℕ → ℕ
-narrow n = if nat_le n 65535 then n else 65535
+narrow n = if nat_le n greatest then n else greatest
 
 abbrev pub narrow_spelled : Spelled → Spelled
 narrow_spelled (Int8 n m) = Int8 (narrow n) m

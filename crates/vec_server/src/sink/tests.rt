@@ -1,3 +1,4 @@
+//! A test of standard output.
 use super::StdSink;
 use std::io::{self, Write};
 use vec_base::{Sink, WriteOutcome};

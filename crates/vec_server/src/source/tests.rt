@@ -1,3 +1,4 @@
+//! A test of standard input.
 ghost use Rattle.std.specs.Prelude.{◌≤◌, ◌^◌};
 
 use super::{MOST, StdSource};

@@ -14,6 +14,6 @@ loop-alloc-preserved g c =
       ap (λ (z : List _). with_front z (read (many more) (rest_of c.next.new.reader))) c.in_ok-push-2.ensures.ok ∙
           (sym (many_step more refl c.loop-alloc.items (rest_of c.loop-alloc.reader) (rest_of c.next.new.reader) c.in_ok-item.item
           (sym c.at_next.ensures ∙ c.loop-alloc-test.true) c.in_ok-item.ensures.reads) ∙ c.loop-alloc.invariant.0),
-      all_pushed g.I.Item.formed c.loop-alloc.items c.push-in-loop-alloc.new.self c.in_ok-item.item c.in_ok-push-2.ensures.ok c.loop-alloc.invariant.1 c.in_ok-item.ensures.formed,
+      all_pushed g.I.Item.well_formed c.loop-alloc.items c.push-in-loop-alloc.new.self c.in_ok-item.item c.in_ok-push-2.ensures.ok c.loop-alloc.invariant.1 c.in_ok-item.ensures.well_formed,
       omega (arith, ap length c.in_ok-push-2.ensures.ok, length-append c.loop-alloc.items (c.in_ok-item.item ∷ [])),
     )

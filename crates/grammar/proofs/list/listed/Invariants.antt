@@ -10,7 +10,7 @@ use Rattle.grammar.proofs.list.listed.Given as goal
 abbrev pub invariant-loop-alloc : goal.invariant-loop-alloc
 invariant-loop-alloc g l =
     (with_front l.items (read (many (a_token g.I.Item.between ▸ g.I.Item.part)) (rest_of l.reader)) ≡ read (parts_with g.I.Item.between g.I.Item.part) (rest_of l.fn.reader))
-    × (list_all g.I.Item.formed l.items ≡ true)
+    × (list_all g.I.Item.well_formed l.items ≡ true)
     × (0 < length l.items)
 
 abbrev pub decreases-loop-alloc : goal.decreases-loop-alloc

@@ -1,6 +1,6 @@
 -- The text so far has the parts before the next one.
 use Rattle.std.proofs.Common.{◌≡◌, ◌++◌, take, string_bytes}
-use Rattle.vec_sql.specs.CanonicalStatements.{behind}
+use Rattle.vec_text.specs.Lists.{behind}
 use Rattle.vec_sql.proofs.piece.write_behind.Given as goal
 
 abbrev pub invariant-loop-piece : goal.invariant-loop-piece

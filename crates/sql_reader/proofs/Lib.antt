@@ -1,0 +1,10 @@
+pub mod Answering
+pub mod Filled
+pub mod MeaningLaws
+pub mod OneAnswer
+pub mod OneMeaning
+pub mod ParameterLaws
+pub mod PartLaws
+pub mod Spelled
+pub mod StatementLines
+pub mod WellFormed

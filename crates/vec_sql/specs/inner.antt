@@ -1,4 +1,0 @@
-pub mod FactoredStatements
-pub mod ParameterNotes
-pub mod PartMeanings
-pub mod WellFormedGivens
