@@ -1,5 +1,5 @@
 -- What is still to be written makes the whole.
-use Rattle.std.proofs.Common.{length, List, ℕ}
+use Rattle.std.proofs.Common.{length}
 use Rattle.hex.specs.Hex.{encode_upper}
 use Rattle.vec_text.proofs.hexadecimal.put_hex.Given as goal
 

@@ -1,7 +1,6 @@
 -- The digits that `hex` writes in small letters, in capitals.
-use Rattle.std.proofs.Common.{◌≡◌, List, ℕ, ◌∙◌, ap, subst, map, OnOk}
+use Rattle.std.proofs.Common.{List, ℕ, ◌∙◌, ap, subst, map, OnOk}
 use Rattle.std.specs.Char.{to_ascii_uppercase}
-use Rattle.hex.specs.Hex.{encode_upper}
 use Rattle.vec_text.proofs.Digits.{all_raised, digits_utf8}
 use Rattle.vec_text.proofs.hexadecimal.put_piece.Goals as goal
 

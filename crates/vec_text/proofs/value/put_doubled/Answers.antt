@@ -1,7 +1,6 @@
-use Rattle.std.proofs.Common.{rules, arith, ℕ, List, ◌≡◌, ◌++◌, [], ◌∷◌, subst, sym}
+use Rattle.std.proofs.Common.{rules, arith, ℕ, List, subst, sym}
 use Rattle.std.proofs.lemmas.Result.{on_ok_weaker}
 use Rattle.std.proofs.lemmas.Str.Pattern.{split_once_first}
-use Rattle.vec_text.specs.ValueTexts.{doubled}
 use Rattle.vec_text.proofs.Doubling.{part_doubled, no_quote}
 use Rattle.vec_text.proofs.value.put_doubled.Goals as goal
 
