@@ -12,7 +12,7 @@ use Rattle.sql_reader.specs.declared.given.GivenTest.{GivenTest}
 use Rattle.sql_reader.specs.declared.given.GivenTerm.{GivenTerm}
 use Rattle.sql_reader.specs.declared.given.GivenStatement.TheVariants as statements
 use Rattle.sql_reader.specs.StatementGrammar.{term_of, comparison, member, match_of, term, where_part, or_none, order, by_distance, by_rowid, items_part, limit, select, create, drop_table, insert, assignment, update, delete, explain, begin, commit, rollback, savepoint, release, body, statement, op, value, vec_int8, vec_bit, group}
-use Rattle.sql_reader.specs.inner.FactoredStatements.{test, factored_term, terms_list, factored_where, maybe_where, maybe_order, maybe_limit, factored_select, factored_create, factored_update, factored_delete, factored_explain, transaction, question, factored_body, factored_statement}
+use Rattle.sql_reader.specs.inner.FactoredStatements.{factored_test, factored_term, terms_list, factored_where, maybe_where, maybe_order, maybe_limit, factored_select, factored_create, factored_update, factored_delete, factored_explain, transaction, question, factored_body, factored_statement}
 
 -- ---- terms
 
@@ -26,7 +26,7 @@ either_term : (p q : Part GivenTest) (r : Part GivenTerm) → Within (term_of p)
 either_term p q r a b = spread (λ x. record { column = x.0; test = x.1 }) a_name p q r a b
 
 term_same : Same factored_term term
-unfolding factored_term test term
+unfolding factored_term factored_test term
 term_same = record {
   there = either_term member (alt match_of comparison) term
       (within_later (term_of member) (term_of comparison) (alt (term_of member) (term_of match_of)) (within_left (term_of member) (term_of match_of)))
@@ -34,10 +34,10 @@ term_same = record {
       (within_later (term_of match_of) (term_of comparison) (alt (term_of member) (term_of match_of)) (within_right (term_of member) (term_of match_of)))
       (within_left (term_of comparison) (alt (term_of member) (term_of match_of))));
   back = within_either (term_of comparison) (alt (term_of member) (term_of match_of)) factored_term
-      (term_within comparison test (within_later comparison member (alt match_of comparison) (within_right match_of comparison)))
+      (term_within comparison factored_test (within_later comparison member (alt match_of comparison) (within_right match_of comparison)))
       (within_either (term_of member) (term_of match_of) factored_term
-      (term_within member test (within_left member (alt match_of comparison)))
-      (term_within match_of test (within_later match_of member (alt match_of comparison) (within_left match_of comparison))));
+      (term_within member factored_test (within_left member (alt match_of comparison)))
+      (term_within match_of factored_test (within_later match_of member (alt match_of comparison) (within_left match_of comparison))));
 }
 
 where_same : Same factored_where where_part
@@ -113,5 +113,5 @@ statement_same = same_before (opt (a_mark (codes ";"))) factored_body body body_
 
 -- the next token decides each choice
 pub statement_decides : decides factored_statement ≡ true
-unfolding factored_statement factored_body question transaction begin commit rollback savepoint release factored_explain factored_select factored_delete factored_update factored_create insert drop_table maybe_order maybe_limit maybe_where factored_where terms_list factored_term test comparison member match_of order by_distance by_rowid items_part limit assignment group value vec_int8 vec_bit op a_signed_number factored_columns factored_arg auxiliary_kind kind scalar_kind text_or_boolean text_kind integer_kind key metric integer_word boolean_word int8 bits chunk_size overlap is_reserved
+unfolding factored_statement factored_body question transaction begin commit rollback savepoint release factored_explain factored_select factored_delete factored_update factored_create insert drop_table maybe_order maybe_limit maybe_where factored_where terms_list factored_term factored_test comparison member match_of order by_distance by_rowid items_part limit assignment group value vec_int8 vec_bit op a_signed_number factored_columns factored_arg auxiliary_kind kind scalar_kind text_or_boolean text_kind integer_kind key metric integer_word boolean_word int8 bits chunk_size overlap is_reserved
 statement_decides = refl

@@ -4,7 +4,7 @@ ghost use Rattle.std.specs.List.{list_all};
 ghost use Rattle.grammar.specs.inner.ReaderResults.{rest_of, Gives};
 ghost use Rattle.grammar.specs.inner.Reading.{read};
 ghost use Rattle.sql_reader.specs.StatementGrammar.{comparison, match_of, member};
-ghost use Rattle.sql_reader.specs.inner.FactoredStatements.{factored_term, factored_where, maybe_where, terms_list, test};
+ghost use Rattle.sql_reader.specs.inner.FactoredStatements.{factored_term, factored_where, maybe_where, terms_list, factored_test};
 ghost use Rattle.sql_reader.specs.inner.WellFormedGivens.{is_well_formed_test, is_well_formed_term};
 
 use crate::given::{GivenTerm, GivenTest};
@@ -50,9 +50,9 @@ fn match_of<'a>(reader: &mut Reader<'a>) -> Result<GivenTest<'a>, Stop>
 }
 
 /// Reads what is asked of a column.
-#[tactic(auto, unfolding(crate::specs::inner::FactoredStatements::test, crate::specs::StatementGrammar::member, crate::specs::StatementGrammar::match_of))]
+#[tactic(auto, unfolding(crate::specs::inner::FactoredStatements::factored_test, crate::specs::StatementGrammar::member, crate::specs::StatementGrammar::match_of))]
 fn test<'a>(alloc: Global, reader: &mut Reader<'a>) -> Result<GivenTest<'a>, Stop>
-    ensures reads { Gives (λ x. x) result (read test (rest_of reader.old)) (rest_of reader.new) }
+    ensures reads { Gives (λ x. x) result (read factored_test (rest_of reader.old)) (rest_of reader.new) }
     ensures well_formed { IfOk result (λ test. is_well_formed_test test ≡ true) }
 {
     if reader.at_word(b"IN") {

@@ -43,12 +43,12 @@ order_op = alt (mark_for ops.Lt (codes "<")) (alt (mark_for ops.Le (codes "<="))
 -- ---- terms
 
 -- IN .. | MATCH .. | op ..
-unfoldable pub test : Part GivenTest
-test = alt member (alt match_of comparison)
+unfoldable pub factored_test : Part GivenTest
+factored_test = alt member (alt match_of comparison)
 
 -- name ..
 unfoldable pub factored_term : Part GivenTerm
-factored_term = term_of test
+factored_term = term_of factored_test
 
 -- term {AND term}
 unfoldable pub terms_list : Part (List GivenTerm)
