@@ -1,10 +1,11 @@
 //! A test of standard input.
-ghost use Rattle.std.specs.Prelude.{◌≤◌, ◌^◌};
+ghost use Rattle.std.specs.Prelude.{◌≤◌};
+ghost use Rattle.vec_base.specs.declared.limits.TheConstants.{MOST_SOURCE_BYTES};
 
-use super::{MOST, StdSource};
+use super::StdSource;
 use std::io::{self, Read};
 use std::process::Abort;
-use vec_base::{ReadOutcome, Source};
+use vec_base::{MOST_SOURCE_BYTES, ReadOutcome, Source};
 
 /// Gives at most two bytes at a call, and fails at the second call.
 #[derive(Drop)]
@@ -29,7 +30,7 @@ impl Read for ShortReader {
 /// Reads "abc" by a source that has given so many bytes: each answer, the first bytes of the room
 /// and the faults by then.
 fn reads_abc(rt: &impl Abort, given: u64, wanted: &[(ReadOutcome, &[u8], u64)])
-    requires { given ≤ 2 ^ 40 }
+    requires { given ≤ MOST_SOURCE_BYTES }
 {
     let mut source = StdSource {
         reader: ShortReader {
@@ -60,5 +61,5 @@ fn counts_what_fails(rt: HostRuntime) {
         (ReadOutcome::Took(1), &b"a\0"[..], 0),
         (ReadOutcome::Failed, &[], 1),
     ];
-    reads_abc(&rt, MOST - 1, &full);
+    reads_abc(&rt, MOST_SOURCE_BYTES as u64 - 1, &full);
 }
