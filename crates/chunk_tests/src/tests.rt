@@ -1,8 +1,9 @@
 //! Each call once on its happy path.
 use chunk_bitmap::Bitmap;
+use shared_leaves::{Copied, Edit, Leaves, Shared, Within};
 use std::alloc::Global;
 use std::test::Fail;
-use vec_base::{Bytes, Copied, Leaves, Memory, Steps, Txt, Value};
+use vec_base::{Bytes, Memory, Steps, Txt, Value};
 
 /// The items of a list, by their places.
 fn items(alloc: Global, list: &Leaves<i64>) -> Result<Vec<i64>, Memory> {
@@ -65,6 +66,43 @@ fn leaves_are_split_and_given_up(rt: HostRuntime) -> Result<(), Fail> {
         ),
         (Some(0), Some(1), Some(198))
     );
+    Ok(())
+}
+
+/// Adds a number to an item.
+struct Adds {
+    more: i64,
+}
+
+impl Edit<i64> for Adds {
+    ghost use Rattle.std.specs.Prelude.{⊤};
+
+    ghost takes = { λ adds item. ⊤ };
+
+    ghost edited = { λ adds item. to_z w64 (of_z w64 (item + adds.more)) };
+
+    fn edit(&self, _alloc: Global, item: &mut i64) -> Result<(), Memory> {
+        *item = item.wrapping_add(self.more);
+        Ok(())
+    }
+}
+
+#[test]
+fn an_item_is_changed_in_its_place(rt: HostRuntime) -> Result<(), Fail> {
+    let alloc = rt.alloc();
+    let mut list = Leaves::new(alloc);
+    list.insert(0, 5).or(Err("no memory"))?;
+    list.edit(0, &Adds { more: 2 }).or(Err("no memory"))?;
+    let shared = list.share().or(Err("no memory"))?;
+    list.edit(0, &Adds { more: 1 }).or(Err("no memory"))?;
+    assert_eq!(rt; (*list.get(0), *shared.get(0)), (8, 7));
+    let mut item = Shared::new(alloc, 5i64).or(Err("no memory"))?;
+    let other = item.share().or(Err("no memory"))?;
+    let adds = Adds { more: 4 };
+    Within(&adds)
+        .edit(alloc, &mut item)
+        .or(Err("no memory"))?;
+    assert_eq!(rt; (*item.get(), *other.get()), (9, 5));
     Ok(())
 }
 

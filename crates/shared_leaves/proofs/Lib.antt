@@ -1,0 +1,3 @@
+mod EditLaws
+mod EndsLaws
+mod JoinedLaws
