@@ -1,5 +1,5 @@
 -- Tables whose rows have places: a slot of a chunk each.
-use Rattle.std.specs.Prelude.{◌≡◌, ℕ, ◌^◌, ℤ, Bool, true, cond, ◌&&◌, ◌==◌, nat_lt, List, [], ◌∷◌, map, Option, Some, None, slice_index_or, ⊤}
+use Rattle.std.specs.Prelude.{◌≡◌, ℕ, ◌^◌, ℤ, Bool, true, cond, ◌&&◌, ◌==◌, nat_lt, List, [], ◌∷◌, map, Option, Some, None, slice_index_or, find, ⊤}
 use Rattle.std.specs.List.{list_all, AllByRecursion}
 use Rattle.std.specs.Ordering.{int_eq}
 use Rattle.vec_base.specs.Words.{is_name}
@@ -38,18 +38,15 @@ is_at chunk slot placed = placed.chunk == chunk && placed.slot == slot
 
 -- the row at a place
 abbrev pub row_at : List PlacedRow → ℕ → ℕ → Option PlacedRow
-row_at [] chunk slot = None
-row_at (p ∷ ps) chunk slot = cond (is_at chunk slot p) (Some p) (row_at ps chunk slot)
+row_at rows chunk slot = find (is_at chunk slot) rows
 
 -- the row of a rowid
 abbrev pub row_of : List PlacedRow → ℤ → Option PlacedRow
-row_of [] rowid = None
-row_of (p ∷ ps) rowid = cond (int_eq p.row.rowid rowid) (Some p) (row_of ps rowid)
+row_of rows rowid = find (λ placed. int_eq placed.row.rowid rowid) rows
 
 -- the first row of a chunk; a chunk is there where it has a row
 abbrev pub first_in : List PlacedRow → ℕ → Option PlacedRow
-first_in [] chunk = None
-first_in (p ∷ ps) chunk = cond (p.chunk == chunk) (Some p) (first_in ps chunk)
+first_in rows chunk = find (λ placed. placed.chunk == chunk) rows
 
 -- the value in a column, by its place from 0
 abbrev pub value_in : ℕ → PlacedRow → Value
