@@ -69,20 +69,21 @@ fn leaves_are_split_and_given_up(rt: HostRuntime) -> Result<(), Fail> {
     Ok(())
 }
 
-/// Adds a number to an item.
-struct Adds {
-    more: i64,
+/// Puts another number in an item's place.
+#[derive(Drop)]
+struct Becomes {
+    number: i64,
 }
 
-impl Edit<i64> for Adds {
+impl Edit<i64> for Becomes {
     ghost use Rattle.std.specs.Prelude.{⊤};
 
-    ghost takes = { λ adds item. ⊤ };
+    ghost takes = { λ becomes item. ⊤ };
 
-    ghost edited = { λ adds item. to_z w64 (of_z w64 (item + adds.more)) };
+    ghost edited = { λ becomes item. becomes.number };
 
     fn edit(&self, _alloc: Global, item: &mut i64) -> Result<(), Memory> {
-        *item = item.wrapping_add(self.more);
+        *item = self.number;
         Ok(())
     }
 }
@@ -92,14 +93,13 @@ fn an_item_is_changed_in_its_place(rt: HostRuntime) -> Result<(), Fail> {
     let alloc = rt.alloc();
     let mut list = Leaves::new(alloc);
     list.insert(0, 5).or(Err("no memory"))?;
-    list.edit(0, &Adds { more: 2 }).or(Err("no memory"))?;
+    list.edit(0, &Becomes { number: 7 }).or(Err("no memory"))?;
     let shared = list.share().or(Err("no memory"))?;
-    list.edit(0, &Adds { more: 1 }).or(Err("no memory"))?;
+    list.edit(0, &Becomes { number: 8 }).or(Err("no memory"))?;
     assert_eq!(rt; (*list.get(0), *shared.get(0)), (8, 7));
     let mut item = Shared::new(alloc, 5i64).or(Err("no memory"))?;
     let other = item.share().or(Err("no memory"))?;
-    let adds = Adds { more: 4 };
-    Within(&adds)
+    Within(&Becomes { number: 9 })
         .edit(alloc, &mut item)
         .or(Err("no memory"))?;
     assert_eq!(rt; (*item.get(), *other.get()), (9, 5));

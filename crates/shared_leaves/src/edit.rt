@@ -20,6 +20,7 @@ pub trait Edit<T> {
 }
 
 /// The change of a shared item that another change makes of the item.
+#[derive(Drop)]
 pub struct Within<'a, E>(pub &'a E);
 
 impl<T: Copied, E: Edit<T>> Edit<Shared<T>> for Within<'_, E> {
