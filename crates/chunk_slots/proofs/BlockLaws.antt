@@ -1,6 +1,5 @@
 -- Vectors in blocks: what a write into one block leaves of each.
-use Rattle.std.proofs.Common.{◌≡◌, ◌≢◌, ◌≤◌, ◌<◌, ◌+◌, ◌-◌, ◌*◌, ◌/◌, ◌%◌, ℕ, suc, zero, List, [], ◌∷◌, ◌++◌, map, length, take, drop, get_or, set, replicate, ⊎_elim, refl, sym, ap, ap₂, ◌∙◌, slice_get, arith, length-set, length-append, length-take, length-drop}
-use Rattle.std.specs.List.{All, range_with_len}
+use Rattle.std.proofs.Common.{◌≡◌, ◌≢◌, ◌≤◌, ◌<◌, ◌+◌, ◌-◌, ◌*◌, ◌/◌, ◌%◌, ℕ, suc, zero, List, [], ◌∷◌, length, take, drop, get_or, set, replicate, ⊎_elim, refl, sym, ap, ap₂, ◌∙◌, slice_get, arith, length-set, length-append, length-take, length-drop}
 use Rattle.std.proofs.lemmas.Bool.{cases_eq, cases_lt}
 use Rattle.std.proofs.lemmas.List.{same_lists, length-replicate, get_or_read, drop-take, get_or-set_same, get_or-set_other}
 use Rattle.std.proofs.lemmas.List.Elements.{All-set, All-replicate}

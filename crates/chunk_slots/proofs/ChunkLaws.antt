@@ -1,14 +1,14 @@
 -- Chunks by their columns and rows: what is known of a slot, and what a change of the parts makes of the chunk.
-use Rattle.std.proofs.Common.{◌≡◌, ◌<◌, ◌+◌, ℕ, zero, suc, ℤ, true, List, [], ◌∷◌, map, length, get_or, set, replicate, Option, Some, None, Ok, Err, refl, sym, ap, ap₂, ◌∙◌, subst, arith, true≢false}
+use Rattle.std.proofs.Common.{◌≡◌, ◌<◌, ℕ, zero, suc, ℤ, true, List, [], ◌∷◌, length, get_or, set, replicate, Option, Some, None, Ok, Err, refl, sym, ap, ap₂, ◌∙◌, subst, arith, true≢false}
 use Rattle.std.specs.List.{All}
 use Rattle.std.specs.Option.{is_some}
 use Rattle.std.specs.Bool.{if◌then◌else◌}
 use Rattle.std.specs.Result.{is_ok, IsErr}
 use Rattle.std.specs.declared.result.Result.{Result}
 use Rattle.std.proofs.lemmas.List.{set-get_or, get_or-map, length-map}
-use Rattle.chunk_slots.specs.Slots.{UsedSlot, Slots, used_by, slot_at, vectors_in, vector_at, all_free, with_slot, with_vector}
+use Rattle.chunk_slots.specs.Slots.{Slots, used_by, slot_at, vectors_in, vector_at, all_free, with_slot, with_vector}
 use Rattle.chunk_slots.specs.inner.Blocks.{VectorColumn, column_with}
-use Rattle.chunk_slots.specs.inner.Columns.{widths_of, sizes_of, vectors_at, HaveSlot, HaveSize, slot_in, slots_from, chunk_of, KeepsOthers}
+use Rattle.chunk_slots.specs.inner.Columns.{widths_of, vectors_at, HaveSlot, HaveSize, slot_in, chunk_of, KeepsOthers}
 use Rattle.chunk_slots.proofs.ColumnLaws.{keeps-set, row_set, slot_there}
 use Rattle.chunk_slots.proofs.SlotLaws.{length_slots, get_slot, some_slot, slots_set, all_free_slots, none_there}
 

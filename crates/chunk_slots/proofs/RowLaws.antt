@@ -1,8 +1,8 @@
 -- Rowids beside the truth values of their slots: a change of one slot, and how many are used.
-use Rattle.std.proofs.Common.{◌≡◌, ◌≤◌, ◌<◌, ◌+◌, ℕ, ℤ, suc, zero, Bool, true, false, cond, List, [], ◌∷◌, map, length, get_or, set, replicate, Option, Some, None, refl, sym, ap, ap₂, ◌∙◌, arith}
+use Rattle.std.proofs.Common.{◌≡◌, ◌<◌, ◌+◌, ℕ, ℤ, suc, zero, Bool, true, false, cond, List, [], ◌∷◌, map, length, get_or, set, replicate, Some, None, refl, sym, ap, ap₂, ◌∙◌, arith}
 use Rattle.std.specs.List.{count_by}
 use Rattle.std.specs.Option.{is_some}
-use Rattle.std.proofs.lemmas.List.Sums.{sum_by-set, sum_by-cons, get_or-le-sum_by}
+use Rattle.std.proofs.lemmas.List.Sums.{sum_by-set}
 use Rattle.chunk_slots.specs.inner.Rows.{row_of, rows_of}
 
 some_row : (bit : Bool) (rowid : ℤ) → is_some (row_of bit rowid) ≡ bit
