@@ -95,10 +95,6 @@ vector_seen slot i columns d rows chunk lt seen used =
 pub column_within : (columns : List VectorColumn) (rows : List (Option ℤ)) (chunk : Slots) (i : ℕ) → chunk_of columns rows ≡ chunk → i < length chunk.widths → i < length columns
 column_within columns rows chunk i seen lt = omega (arith, lt, ap (λ c. length c.widths) seen, length-map columns (λ column. column.width))
 
-pub width_seen : (columns : List VectorColumn) (rows : List (Option ℤ)) (chunk : Slots) (i : ℕ) (d : VectorColumn) → chunk_of columns rows ≡ chunk → i < length chunk.widths → (get_or columns i d).width ≡ get_or chunk.widths i 0
-width_seen columns rows chunk i d seen lt =
-    sym (get_or-map (λ column. column.width) columns i d 0 (column_within columns rows chunk i seen lt)) ∙ ap (λ c. get_or c.widths i 0) seen
-
 -- a column of a chunk has a vector for each used slot
 pub column_there : (slot n i : ℕ) (columns : List VectorColumn) (c : VectorColumn) (rows : List (Option ℤ)) (chunk : Slots) → HaveSize (length rows) columns → n ≡ i → i < length chunk.widths → chunk_of columns rows ≡ chunk →
     is_some (slot_at chunk slot) ≡ true → c ≡ get_or columns n c → slot < length c.vectors

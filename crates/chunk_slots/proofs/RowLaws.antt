@@ -43,10 +43,6 @@ all_free_rows zero rowids same = refl
 all_free_rows (suc count) [] same = absurd (omega (arith, same))
 all_free_rows (suc count) (rowid ∷ rowids) same = ap (λ rows. None ∷ rows) (all_free_rows count rowids (omega (arith, same)))
 
-pub none_used : (count : ℕ) → count_by (λ bit. bit) (replicate count false) ≡ 0
-none_used zero = refl
-none_used (suc count) = none_used count
-
 -- the truth value of a slot, by whether its row is there
 pub is_clear : (bits : List Bool) (rowids : List ℤ) (i : ℕ) → length rowids ≡ length bits → get_or (rows_of bits rowids) i None ≡ None → get_or bits i false ≡ false
 is_clear [] rowids i same free = refl
