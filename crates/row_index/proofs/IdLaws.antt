@@ -28,11 +28,12 @@ id_paired id (Some text) rowid pairs own is = ap (λ t. paired t pairs) (sym ((b
 
 -- ---- the entry of an id
 
--- where all entries of the id have one rowid, and no entry of that rowid has the id, none has it
+-- a test that cannot hold fails
 false_from : (b : Bool) → (b ≡ true → ⊥) → b ≡ false
 false_from true never = absurd (never refl)
 false_from false never = refl
 
+-- an entry that has an id has the rowid that is paired with it
 rowid_is : (id : List ℕ) (pairs : List IdPair) (x : Entry) (rowid : ℤ) → IsPaired pairs x → paired id pairs ≡ Some rowid → has_id id x ≡ true → x.rowid ≡ rowid
 rowid_is id pairs x rowid own pair has = same_Some x.rowid rowid (sym (id_paired id x.id x.rowid pairs own has) ∙ pair)
 
