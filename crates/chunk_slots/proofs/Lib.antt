@@ -1,0 +1,6 @@
+mod BlockLaws
+mod ChunkLaws
+mod ColumnLaws
+mod RowLaws
+mod SlotLaws
+mod ValueLaws

@@ -1,0 +1,11 @@
+use Rattle.std.proofs.Common.{map, ap, sym, ◌∙◌}
+use Rattle.std.specs.List.{count_by}
+use Rattle.std.specs.Option.{is_some}
+use Rattle.chunk_slots.proofs.SlotLaws.{which_used, count_used}
+use Rattle.chunk_slots.proofs.chunk.Chunk.used.Goals as goal
+
+pub returns : goal.returns
+returns c =
+    c.used.ensures
+    ∙ ap (count_by (λ bit. bit)) (sym (which_used c.self.inside.columns.items 0 c.self.inside.rows) ∙ ap (λ chunk. map is_some chunk.slots) c.self.view_is)
+    ∙ count_used c.args.self.now.slots

@@ -1,0 +1,6 @@
+mod EntryLaws
+mod FindLaws
+mod IdLaws
+mod KeyLaws
+mod PairLaws
+mod SearchLaws

@@ -1,0 +1,8 @@
+use Rattle.std.specs.List.Sorted.{IsStrictlySortedBy}
+use Rattle.row_index.specs.declared.entry.Entry.{Entry}
+use Rattle.row_index.specs.declared.entry.IdPair.{IdPair}
+use Rattle.row_index.proofs.IdLaws.{none_indexed}
+use Rattle.row_index.proofs.index.RowIndex.new.Goals as goal
+
+pub invariant_of-result : goal.invariant_of-result
+invariant_of-result c = none_indexed c.new.result c.new-2.result c.new.ensures c.new-2.ensures
