@@ -29,7 +29,10 @@ fn the_lowest_place_is_taken(rt: HostRuntime) -> Result<(), Fail> {
     assert_eq!(rt; give_back(&mut places, 1, 0), Ok(Some(false)));
     let shared = places.share().or(Err("no memory"))?;
     assert_eq!(rt; give_back(&mut places, 1, 1), Ok(Some(true)));
-    assert_eq!(rt; (places.next_chunk(0), shared.next_chunk(0)), (None, Some(1)));
+    assert_eq!(rt;
+        (places.next_chunk(0), shared.next_chunk(0)),
+        (None, Some(1))
+    );
     assert!(rt; places.partition_at(1, 1).is_none() && shared.partition_at(1, 1).is_some());
     Ok(())
 }
@@ -59,7 +62,10 @@ fn partitions_have_chunks_of_their_own(rt: HostRuntime) -> Result<(), Fail> {
     assert_eq!(rt; places.take(alloc, &seven), Ok(Place::Slot(1, 1)));
     assert_eq!(rt; give_back(&mut places, 1, 0), Ok(Some(false)));
     assert_eq!(rt; places.take(alloc, &seven), Ok(Place::Slot(1, 0)));
-    assert_eq!(rt; (places.next_chunk(1), places.next_chunk(2)), (Some(2), None));
+    assert_eq!(rt;
+        (places.next_chunk(1), places.next_chunk(2)),
+        (Some(2), None)
+    );
     assert!(rt; matches!(places.partition(2), Some(values) if same_values(values, &five)));
     assert!(rt; places.partition(3).is_none());
     Ok(())
