@@ -1,0 +1,7 @@
+mod KeyedLaws
+mod PartLaws
+mod PickLaws
+mod PlaceLaws
+mod TieLaws
+mod TouchLaws
+mod ViewLaws

@@ -1,0 +1,12 @@
+//! The rows of a table in chunks: where each lies, and what was touched since the rows were shared.
+#![tactic(auto)]
+
+mod part;
+mod parts;
+mod place;
+mod rows;
+mod store;
+mod touched;
+
+pub use place::RowPlace;
+pub use store::RowStore;
