@@ -59,9 +59,9 @@ next_vector (vector ∷ vectors) = vector
 
 -- the list without its first element, where that was taken
 abbrev pub past : {A : Type 0} → Bool → List A → List A
-past taken [] = []
+past false xs = xs
+past true [] = []
 past true (x ∷ xs) = xs
-past false (x ∷ xs) = x ∷ xs
 
 -- the value in a column: the first of the partition values, or the first of the vectors, is its own
 abbrev pub woven_value : Kind → ℤ → Option (List ℕ) → List Value → List (List ℕ) → Value
