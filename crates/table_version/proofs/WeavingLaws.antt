@@ -1,7 +1,7 @@
 -- The values of a row come back from what is kept of it, and what its vectors and text ids are like.
-use Rattle.std.proofs.Common.{◌≡◌, ℕ, suc, ℤ, ◌+◌, ◌≤◌, Bool, true, false, cond, List, [], ◌∷◌, ◌∙◌, refl, sym, ap, ap₂, subst, arith, map, length, Option, Some, None}
-use Rattle.std.specs.Prelude.{◌==◌, ◌*◌, ◌/◌, ◌%◌, ◌&&◌, ◌||◌, not, nat_lt, nat_le, bytes_eq, if◌then◌else◌}
-use Rattle.std.specs.List.{list_all, list_any, cons_option, AllByRecursion}
+use Rattle.std.proofs.Common.{◌≡◌, ℕ, zero, suc, ℤ, ◌+◌, ◌≤◌, Bool, true, false, cond, List, [], ◌∷◌, ◌∙◌, refl, sym, ap, ap₂, subst, arith, map, length, Option, Some, None}
+use Rattle.std.specs.Prelude.{◌==◌, ◌*◌, ◌/◌, ◌%◌, ◌&&◌, ◌||◌, not, nat_lt, nat_le, bytes_eq, is_some, if◌then◌else◌}
+use Rattle.std.specs.List.{list_all, list_any, cons_option, All, AllByRecursion}
 use Rattle.std.specs.Ordering.{int_eq}
 use Rattle.std.proofs.lemmas.Bool.{and_parts, and_from, eqb-true, leb-true, ltb-false}
 use Rattle.std.proofs.lemmas.Int.{ints}
@@ -11,16 +11,18 @@ use Rattle.vec_base.specs.declared.value.Value.{Value}
 use Rattle.vec_base.specs.declared.value.Value.TheVariants.{Null, Int, Text, Blob, Int8, Bits}
 use Rattle.row_model.specs.Change.{is_same_text, same_id}
 use Rattle.row_model.specs.ColumnNames.{is_text_key, has_text_key}
-use Rattle.row_model.specs.Schemas.{is_key, is_vector, is_partition, is_metadata, is_auxiliary, count_of, has_some}
+use Rattle.row_model.specs.Schemas.{is_key, is_vector, is_partition, is_metadata, is_auxiliary, count_of, has_some, is_misfit_int8, is_misfit_bits, IsValidSchema}
 use Rattle.row_model.specs.Valid.{is_number, is_fitting, is_valid_value, are_valid_values}
 use Rattle.row_model.specs.Values.{is_null, is_int, is_text, is_int8, is_bits, is_of_kind, is_shaped, dimensions, width_of, side_bytes}
 use Rattle.row_model.specs.declared.schema.Column.{Column}
 use Rattle.row_model.specs.declared.schema.Kind.{Kind}
 use Rattle.row_model.specs.declared.schema.Kind.TheVariants.{IntKey, TextKey, Int8Vector, BitVector, IntPartition, TextPartition, IntMeta, TextMeta, BoolMeta, IntAux, TextAux, BlobAux}
-use Rattle.row_model.proofs.BoolLaws.{or_first, or_none, or_second}
+use Rattle.row_model.proofs.BoolLaws.{not_false, or_first, or_none, or_second}
+use Rattle.row_model.specs.declared.schema.Schema.{Schema}
+use Rattle.row_model.proofs.SchemaLaws.{faultless}
 use Rattle.shadow_records.specs.PlacedTables.{partition_of}
 use Rattle.chunk_slots.specs.Slots.{vector_of, vectors_of}
-use Rattle.vec_base.specs.declared.limits.TheConstants.{MOST_VALUE_BYTES}
+use Rattle.vec_base.specs.declared.limits.TheConstants.{MOST_DIMENSIONS, MOST_VALUE_BYTES, MOST_VECTOR_COLUMNS}
 use Rattle.table_version.specs.inner.Weaving.{id_text, text_in, id_in, is_one_id, is_partition_value, vector_width, widths_of, next_value, next_vector, past, woven_value, woven}
 
 -- ---- what a value of a type is
@@ -297,3 +299,173 @@ widths-fit (column ∷ columns) rowid (value ∷ values) no_metadata no_auxiliar
     (widths-fit columns rowid values (or_second (is_metadata column.kind) (has_some is_metadata columns) no_metadata)
     (or_second (is_auxiliary column.kind) (has_some is_auxiliary columns) no_auxiliary)
     (and_parts (is_valid_value column.kind rowid value) (are_valid_values columns rowid values) valid).1)
+
+vectors_step : (column : Column) (columns : List Column) → count_of is_vector (column ∷ columns) ≡ one_if (is_vector column.kind) + count_of is_vector columns
+vectors_step column columns = sum_by-cons (λ (c : Column). one_if (is_vector c.kind)) column columns
+
+one_width : (kind : Kind) (widths : List ℕ) → length (cons_option (vector_width kind) widths) ≡ one_if (is_vector kind) + length widths
+one_width (Int8Vector width metric) widths = omega arith
+one_width (BitVector width) widths = omega arith
+one_width IntKey widths = omega arith
+one_width TextKey widths = omega arith
+one_width IntPartition widths = omega arith
+one_width TextPartition widths = omega arith
+one_width IntMeta widths = omega arith
+one_width TextMeta widths = omega arith
+one_width BoolMeta widths = omega arith
+one_width IntAux widths = omega arith
+one_width TextAux widths = omega arith
+one_width BlobAux widths = omega arith
+
+-- there is one for each vector column
+pub widths-counted : (columns : List Column) → length (widths_of columns) ≡ count_of is_vector columns
+widths-counted [] = refl
+widths-counted (column ∷ columns) =
+    let here = one_width column.kind (widths_of columns) in
+    let step = vectors_step column columns in
+    let rest = widths-counted columns in
+    omega (arith, here, step, rest)
+
+pub few-widths : (schema : Schema) → IsValidSchema schema → length (widths_of schema.columns) ≤ MOST_VECTOR_COLUMNS
+few-widths schema valid =
+    let most = ltb-false 16 (count_of is_vector schema.columns) (faultless schema valid.rules).vectors in
+    let counted = widths-counted schema.columns in
+    omega (arith, most, counted)
+
+-- a vector of the column has a byte or more, and no more than the most
+abbrev pub IsWidth : ℕ → Type 0
+IsWidth width = (1 ≤ width) × (width ≤ MOST_DIMENSIONS)
+
+within : (least most n : ℕ) → not (nat_le least n && nat_le n most) ≡ false → (least ≤ n) × (n ≤ most)
+within least most n h =
+    let parts = and_parts (nat_le least n) (nat_le n most) (not_false (nat_le least n && nat_le n most) h) in
+    (leb-true least n parts.0, leb-true n most parts.1)
+
+within_eights : (most n : ℕ) → not (n % 8 == 0 && nat_le 8 n && nat_le n most) ≡ false → (n % 8 ≡ 0) × (8 ≤ n) × (n ≤ most)
+within_eights most n h =
+    let parts = and_parts (n % 8 == 0 && nat_le 8 n) (nat_le n most) (not_false (n % 8 == 0 && nat_le 8 n && nat_le n most) h) in
+    let firsts = and_parts (n % 8 == 0) (nat_le 8 n) parts.0 in
+    (eqb-true (n % 8) 0 firsts.0, leb-true 8 n firsts.1, leb-true n most parts.1)
+
+width_put : (kind : Kind) (widths : List ℕ) → is_misfit_int8 kind ≡ false → is_misfit_bits kind ≡ false → AllByRecursion IsWidth widths → AllByRecursion IsWidth (cons_option (vector_width kind) widths)
+width_put (Int8Vector width metric) widths int8 bits all = (within 1 MOST_DIMENSIONS width int8, all)
+width_put (BitVector width) widths int8 bits all =
+    let fits = within_eights MOST_DIMENSIONS width bits in
+    ((least width fits.1, most width fits.2), all)
+  where
+    least : (width : ℕ) → 8 ≤ width → 1 ≤ width / 8
+    least width low = omega (arith, low)
+
+    most : (width : ℕ) → width ≤ MOST_DIMENSIONS → width / 8 ≤ MOST_DIMENSIONS
+    most width high = omega (arith, high)
+width_put IntKey widths int8 bits all = all
+width_put TextKey widths int8 bits all = all
+width_put IntPartition widths int8 bits all = all
+width_put TextPartition widths int8 bits all = all
+width_put IntMeta widths int8 bits all = all
+width_put TextMeta widths int8 bits all = all
+width_put BoolMeta widths int8 bits all = all
+width_put IntAux widths int8 bits all = all
+width_put TextAux widths int8 bits all = all
+width_put BlobAux widths int8 bits all = all
+
+all_widths : (columns : List Column) → has_some is_misfit_int8 columns ≡ false → has_some is_misfit_bits columns ≡ false → AllByRecursion IsWidth (widths_of columns)
+all_widths [] int8 bits = tt
+all_widths (column ∷ columns) int8 bits =
+    width_put column.kind (widths_of columns) (or_first (is_misfit_int8 column.kind) (has_some is_misfit_int8 columns) int8)
+    (or_first (is_misfit_bits column.kind) (has_some is_misfit_bits columns) bits)
+    (all_widths columns (or_second (is_misfit_int8 column.kind) (has_some is_misfit_int8 columns) int8) (or_second (is_misfit_bits column.kind) (has_some is_misfit_bits columns) bits))
+
+pub narrow-widths : (schema : Schema) → IsValidSchema schema → AllByRecursion IsWidth (widths_of schema.columns)
+narrow-widths schema valid = let rules = faultless schema valid.rules in all_widths schema.columns rules.int8 rules.bits
+
+all_at : {A : Type 0} (P Q : A → Type 0) (xs : List A) → ((x : A) → P x → Q x) → AllByRecursion P xs → All Q xs
+all_at P Q [] weaker all k d low = absurd (omega arith)
+all_at P Q (x ∷ xs) weaker all zero d low = weaker x all.0
+all_at P Q (x ∷ xs) weaker all (suc k) d low = all_at P Q xs weaker all.1 k d (omega (arith, low))
+
+-- no vector of a valid schema has more bytes than a vector has dimensions at most
+pub short-widths : (schema : Schema) → IsValidSchema schema → All (λ width. width ≤ MOST_DIMENSIONS) (widths_of schema.columns)
+short-widths schema valid = all_at IsWidth (λ width. width ≤ MOST_DIMENSIONS) (widths_of schema.columns) (λ width fits. fits.1) (narrow-widths schema valid)
+
+-- ---- text ids
+
+same_text : (a b : List ℕ) → (bytes_eq a b || false) ≡ bytes_eq a b
+same_text a b = elim (bytes_eq a b) as (λ c. (c || false) ≡ c) [ true ↦ refl | false ↦ refl ]
+
+no_id : (columns : List Column) (us vs : List Value) → has_text_key columns ≡ false → same_id columns us vs ≡ false
+no_id [] us vs none = refl
+no_id (column ∷ columns) [] vs none = refl
+no_id (column ∷ columns) (u ∷ us) [] none = refl
+no_id (column ∷ columns) (u ∷ us) (v ∷ vs) none =
+    by_test (is_text_key column.kind) (or_first (is_text_key column.kind) (has_text_key columns) none)
+    (no_id columns us vs (or_second (is_text_key column.kind) (has_text_key columns) none))
+  where
+    by_test : (b : Bool) → b ≡ false → same_id columns us vs ≡ false → ((b && is_same_text u v) || same_id columns us vs) ≡ false
+    by_test true e rest = absurd cc
+    by_test false e rest = rest
+
+-- a valid value of a text key is a text
+key_text : (kind : Kind) (rowid : ℤ) (value : Value) → is_text_key kind ≡ true → is_valid_value kind rowid value ≡ true → (text : List ℕ) × (value ≡ Text text)
+key_text TextKey rowid value key valid = text_shape value (typed TextKey value (not_null (is_null value) (is_fitting TextKey value) valid))
+key_text IntKey rowid value key valid = absurd cc
+key_text (Int8Vector width metric) rowid value key valid = absurd cc
+key_text (BitVector width) rowid value key valid = absurd cc
+key_text IntPartition rowid value key valid = absurd cc
+key_text TextPartition rowid value key valid = absurd cc
+key_text IntMeta rowid value key valid = absurd cc
+key_text TextMeta rowid value key valid = absurd cc
+key_text BoolMeta rowid value key valid = absurd cc
+key_text IntAux rowid value key valid = absurd cc
+key_text TextAux rowid value key valid = absurd cc
+key_text BlobAux rowid value key valid = absurd cc
+
+text_values : (u v : Value) (a b : List ℕ) (same : Bool) → u ≡ Text a → v ≡ Text b → same ≡ false → (is_same_text u v || same) ≡ is_one_id (text_in u) (text_in v)
+text_values u v a b same is_a is_b none = rw (is_a, is_b, none) (same_text a b)
+
+one_id : (columns : List Column) (n m : ℤ) (us vs : List Value) → count_of is_key columns ≤ 1 → are_valid_values columns n us ≡ true → are_valid_values columns m vs ≡ true →
+    same_id columns us vs ≡ is_one_id (id_in columns us) (id_in columns vs)
+one_id [] n m us vs few left right = refl
+one_id (column ∷ columns) n m [] vs few left right = absurd cc
+one_id (column ∷ columns) n m (u ∷ us) [] few left right = absurd cc
+one_id (column ∷ columns) n m (u ∷ us) (v ∷ vs) few left right =
+    let lefts = and_parts (is_valid_value column.kind n u) (are_valid_values columns n us) left in
+    let rights = and_parts (is_valid_value column.kind m v) (are_valid_values columns m vs) right in
+    by_test (is_text_key column.kind) (λ e. key_text column.kind n u e lefts.0) (λ e. key_text column.kind m v e rights.0)
+    (λ e. no_id columns us vs (no_id_behind column columns few e))
+    (one_id columns n m us vs (fewer_keys column columns few) lefts.1 rights.1)
+  where
+    by_test : (b : Bool) → (b ≡ true → (text : List ℕ) × (u ≡ Text text)) → (b ≡ true → (text : List ℕ) × (v ≡ Text text)) → (b ≡ true → same_id columns us vs ≡ false) →
+        same_id columns us vs ≡ is_one_id (id_in columns us) (id_in columns vs) →
+        ((b && is_same_text u v) || same_id columns us vs) ≡ is_one_id (if b then text_in u else id_in columns us) (if b then text_in v else id_in columns vs)
+    by_test true here there none rest = text_values u v (here refl).0 (there refl).0 (same_id columns us vs) (here refl).1 (there refl).1 (none refl)
+    by_test false here there none rest = rest
+
+-- Two rows have one text id exactly where the texts in the column of their key are there and equal.
+pub same_id-texts : (columns : List Column) (n m : ℤ) (us vs : List Value) → nat_lt 1 (count_of is_key columns) ≡ false →
+    are_valid_values columns n us ≡ true → are_valid_values columns m vs ≡ true → same_id columns us vs ≡ is_one_id (id_in columns us) (id_in columns vs)
+same_id-texts columns n m us vs few left right =
+    let keys = ltb-false 1 (count_of is_key columns) few in
+    one_id columns n m us vs (omega (arith, keys)) left right
+
+-- both are there, and are one text
+pub one_id-equal : (a b : Option (List ℕ)) → is_one_id a b ≡ true → (text : List ℕ) × (a ≡ Some text) × (b ≡ Some text)
+one_id-equal (Some a) (Some b) h = (a, refl, ap Some (sym ((bytes_eq-Decides a b).0 h)))
+one_id-equal (Some a) None h = absurd cc
+one_id-equal None b h = absurd cc
+
+pub one_id-from : (text : List ℕ) → is_one_id (Some text) (Some text) ≡ true
+one_id-from text = (bytes_eq-Decides text text).1 refl
+
+-- a valid row has a text id exactly where the columns have a text key
+pub id_in-there : (columns : List Column) (rowid : ℤ) (values : List Value) → are_valid_values columns rowid values ≡ true → is_some (id_in columns values) ≡ has_text_key columns
+id_in-there [] rowid values valid = refl
+id_in-there (column ∷ columns) rowid [] valid = absurd cc
+id_in-there (column ∷ columns) rowid (value ∷ values) valid =
+    let parts = and_parts (is_valid_value column.kind rowid value) (are_valid_values columns rowid values) valid in
+    by_test (is_text_key column.kind) (λ e. key_text column.kind rowid value e parts.0) (id_in-there columns rowid values parts.1)
+  where
+    by_test : (b : Bool) → (b ≡ true → (text : List ℕ) × (value ≡ Text text)) → is_some (id_in columns values) ≡ has_text_key columns →
+        is_some (if b then text_in value else id_in columns values) ≡ (b || has_text_key columns)
+    by_test true here rest = ap (λ (v : Value). is_some (text_in v)) (here refl).1
+    by_test false here rest = rest
