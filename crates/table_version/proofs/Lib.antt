@@ -1,1 +1,3 @@
+pub mod ByteLaws
+pub mod ValidityLaws
 pub mod WeavingLaws
