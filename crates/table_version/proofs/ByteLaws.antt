@@ -1,9 +1,9 @@
 -- How many bytes rows have: within 64 bits, and what one row more or less makes of it.
 use Rattle.std.proofs.Common.{◌≡◌, ℕ, zero, suc, ℤ, ◌+◌, ◌*◌, ◌<◌, ◌≤◌, Bool, true, false, cond, List, [], ◌∷◌, ◌∙◌, refl, sym, ap, subst, arith, length, Option, Some, None}
-use Rattle.std.specs.Prelude.{◌^◌, ◌&&◌, ◌||◌, not, filter, find, int_lt, nat_le, sum_by, if◌then◌else◌}
+use Rattle.std.specs.Prelude.{◌==◌, ◌%◌, ◌^◌, ◌&&◌, ◌||◌, not, filter, find, int_lt, nat_le, sum_by, if◌then◌else◌}
 use Rattle.std.specs.List.{list_all, list_any}
 use Rattle.std.specs.Ordering.{int_eq}
-use Rattle.std.proofs.lemmas.Bool.{and_parts, leb-true}
+use Rattle.std.proofs.lemmas.Bool.{and_parts, eqb-true, leb-true}
 use Rattle.std.proofs.lemmas.Int.{ints}
 use Rattle.std.proofs.lemmas.List.Sums.{sum_by-cons}
 use Rattle.vec_base.specs.declared.value.Value.{Value}
@@ -11,7 +11,7 @@ use Rattle.vec_base.specs.declared.value.Value.TheVariants.{Null, Int, Text, Blo
 use Rattle.vec_base.specs.declared.limits.TheConstants.{MOST_DIMENSIONS, MOST_ROWS, MOST_VALUE_BYTES}
 use Rattle.row_model.specs.Change.{rows_side_bytes, rows_vector_bytes}
 use Rattle.row_model.specs.Rows.{has_rowid, with_row, is_rising}
-use Rattle.row_model.specs.Schemas.{has_some, is_misfit_int8, is_misfit_bits}
+use Rattle.row_model.specs.Schemas.{has_some, is_auxiliary, is_misfit_int8, is_misfit_bits, IsValidSchema}
 use Rattle.row_model.specs.Valid.{is_fitting, is_number, is_valid_value, are_valid_values, is_valid_row, IsValidTable}
 use Rattle.row_model.specs.Values.{is_null, is_of_kind, is_shaped, dimensions, width_of, side_bytes, vector_bytes, row_side_bytes, row_vector_bytes}
 use Rattle.row_model.specs.declared.row.Row.{Row}
@@ -19,9 +19,11 @@ use Rattle.row_model.specs.declared.row.Table.{Table}
 use Rattle.row_model.specs.declared.schema.Column.{Column}
 use Rattle.row_model.specs.declared.schema.Kind.{Kind}
 use Rattle.row_model.specs.declared.schema.Kind.TheVariants.{IntKey, TextKey, Int8Vector, BitVector, IntPartition, TextPartition, IntMeta, TextMeta, BoolMeta, IntAux, TextAux, BlobAux}
+use Rattle.row_model.specs.declared.schema.Schema.{Schema}
 use Rattle.row_model.specs.declared.schema.TheConstants.{MOST_COLUMNS}
 use Rattle.row_model.proofs.BoolLaws.{not_false, or_first, or_none, or_second}
 use Rattle.row_model.proofs.SchemaLaws.{faultless, few_columns}
+use Rattle.row_model.proofs.ValidityRows.{is_plainly_valid}
 
 -- ---- one row more
 
@@ -103,3 +105,130 @@ vector_bytes-without rowid rows row rising found = sum-without row_vector_bytes 
 pub side_bytes-without : (rowid : ℤ) (rows : List Row) (row : Row) → is_rising rows ≡ true → find (λ r. int_eq r.rowid rowid) rows ≡ Some row →
     row_side_bytes row + rows_side_bytes (without rowid rows) ≡ rows_side_bytes rows
 side_bytes-without rowid rows row rising found = sum-without row_side_bytes rowid rows row rising found
+
+-- ---- within 64 bits
+
+-- a value has no more bytes than a vector or a text may have
+record IsSmall (value : Value) : Type 0 where
+  vector : vector_bytes value ≤ MOST_DIMENSIONS
+  side : side_bytes value ≤ MOST_VALUE_BYTES
+
+null_small : (value : Value) → is_null value ≡ true → IsSmall value
+null_small Null h = record { vector = omega arith; side = omega arith }
+null_small (Int n) h = absurd cc
+null_small (Text text) h = absurd cc
+null_small (Blob bytes) h = absurd cc
+null_small (Int8 vector) h = absurd cc
+null_small (Bits vector) h = absurd cc
+
+number_small : (rowid : ℤ) (value : Value) → is_number rowid value ≡ true → IsSmall value
+number_small rowid (Int n) h = record { vector = omega arith; side = omega arith }
+number_small rowid Null h = absurd cc
+number_small rowid (Text text) h = absurd cc
+number_small rowid (Blob bytes) h = absurd cc
+number_small rowid (Int8 vector) h = absurd cc
+number_small rowid (Bits vector) h = absurd cc
+
+-- a vector has a dimension or more for each byte
+bytes_most : (value : Value) → vector_bytes value ≤ dimensions value
+bytes_most Null = omega arith
+bytes_most (Int n) = omega arith
+bytes_most (Text text) = omega arith
+bytes_most (Blob bytes) = omega arith
+bytes_most (Int8 vector) = omega arith
+bytes_most (Bits vector) = omega arith
+
+width_most : (kind : Kind) → is_misfit_int8 kind ≡ false → is_misfit_bits kind ≡ false → width_of kind ≤ MOST_DIMENSIONS
+width_most (Int8Vector width metric) int8 bits =
+    leb-true width MOST_DIMENSIONS (and_parts (nat_le 1 width) (nat_le width MOST_DIMENSIONS) (not_false (nat_le 1 width && nat_le width MOST_DIMENSIONS) int8)).1
+width_most (BitVector width) int8 bits =
+    leb-true width MOST_DIMENSIONS (and_parts (width % 8 == 0 && nat_le 8 width) (nat_le width MOST_DIMENSIONS) (not_false (width % 8 == 0 && nat_le 8 width && nat_le width MOST_DIMENSIONS) bits)).1
+width_most IntKey int8 bits = omega arith
+width_most TextKey int8 bits = omega arith
+width_most IntPartition int8 bits = omega arith
+width_most TextPartition int8 bits = omega arith
+width_most IntMeta int8 bits = omega arith
+width_most TextMeta int8 bits = omega arith
+width_most BoolMeta int8 bits = omega arith
+width_most IntAux int8 bits = omega arith
+width_most TextAux int8 bits = omega arith
+width_most BlobAux int8 bits = omega arith
+
+fitting_small : (kind : Kind) (value : Value) → width_of kind ≤ MOST_DIMENSIONS → is_fitting kind value ≡ true → IsSmall value
+fitting_small kind value narrow fits =
+    let parts = and_parts (is_of_kind kind value) (is_shaped kind value && nat_le (side_bytes value) MOST_VALUE_BYTES) fits in
+    let more = and_parts (is_shaped kind value) (nat_le (side_bytes value) MOST_VALUE_BYTES) parts.1 in
+    let wide = eqb-true (width_of kind) (dimensions value) (by_type (is_of_kind kind value) (width_of kind == dimensions value) parts.0 more.0) in
+    let most = bytes_most value in
+    record { vector = omega (arith, narrow, wide, most); side = leb-true (side_bytes value) MOST_VALUE_BYTES more.1 }
+  where
+    by_type : (a b : Bool) → a ≡ true → (not a || b) ≡ true → b ≡ true
+    by_type true b e g = g
+    by_type false b e g = absurd cc
+
+plainly_small : (kind : Kind) (value : Value) → width_of kind ≤ MOST_DIMENSIONS → is_plainly_valid kind value ≡ true → IsSmall value
+plainly_small kind value narrow valid =
+    elim (is_null value) as (λ b. is_null value ≡ b → (if b then is_auxiliary kind else is_fitting kind value) ≡ true → IsSmall value)
+    [ true ↦ λ e h. null_small value e | false ↦ λ e h. fitting_small kind value narrow h ] refl valid
+
+valid_small : (kind : Kind) (rowid : ℤ) (value : Value) → width_of kind ≤ MOST_DIMENSIONS → is_valid_value kind rowid value ≡ true → IsSmall value
+valid_small IntKey rowid value narrow valid = number_small rowid value valid
+valid_small TextKey rowid value narrow valid = plainly_small TextKey value narrow valid
+valid_small (Int8Vector width metric) rowid value narrow valid = plainly_small (Int8Vector width metric) value narrow valid
+valid_small (BitVector width) rowid value narrow valid = plainly_small (BitVector width) value narrow valid
+valid_small IntPartition rowid value narrow valid = plainly_small IntPartition value narrow valid
+valid_small TextPartition rowid value narrow valid = plainly_small TextPartition value narrow valid
+valid_small IntMeta rowid value narrow valid = plainly_small IntMeta value narrow valid
+valid_small TextMeta rowid value narrow valid = plainly_small TextMeta value narrow valid
+valid_small BoolMeta rowid value narrow valid = plainly_small BoolMeta value narrow valid
+valid_small IntAux rowid value narrow valid = plainly_small IntAux value narrow valid
+valid_small TextAux rowid value narrow valid = plainly_small TextAux value narrow valid
+valid_small BlobAux rowid value narrow valid = plainly_small BlobAux value narrow valid
+
+values_small : (columns : List Column) (rowid : ℤ) (values : List Value) → has_some is_misfit_int8 columns ≡ false → has_some is_misfit_bits columns ≡ false →
+    are_valid_values columns rowid values ≡ true →
+    (sum_by vector_bytes values ≤ length columns * MOST_DIMENSIONS) × (sum_by side_bytes values ≤ length columns * MOST_VALUE_BYTES)
+values_small [] rowid [] int8 bits valid = (omega arith, omega arith)
+values_small [] rowid (value ∷ values) int8 bits valid = absurd cc
+values_small (column ∷ columns) rowid [] int8 bits valid = absurd cc
+values_small (column ∷ columns) rowid (value ∷ values) int8 bits valid =
+    let parts = and_parts (is_valid_value column.kind rowid value) (are_valid_values columns rowid values) valid in
+    let narrow = width_most column.kind (or_first (is_misfit_int8 column.kind) (has_some is_misfit_int8 columns) int8) (or_first (is_misfit_bits column.kind) (has_some is_misfit_bits columns) bits) in
+    let one = valid_small column.kind rowid value narrow parts.0 in
+    let rest = values_small columns rowid values (or_second (is_misfit_int8 column.kind) (has_some is_misfit_int8 columns) int8)
+        (or_second (is_misfit_bits column.kind) (has_some is_misfit_bits columns) bits) parts.1 in
+    let vectors = sum_by-cons vector_bytes value values in
+    let sides = sum_by-cons side_bytes value values in
+    (omega (arith, vectors, one.vector, rest.0), omega (arith, sides, one.side, rest.1))
+
+-- a valid row has no more bytes than all its columns may have
+pub row-bytes : (schema : Schema) (row : Row) → IsValidSchema schema → is_valid_row schema.columns row ≡ true →
+    (row_vector_bytes row ≤ MOST_COLUMNS * MOST_DIMENSIONS) × (row_side_bytes row ≤ MOST_COLUMNS * MOST_VALUE_BYTES)
+row-bytes schema row valid fits =
+    let rules = faultless schema valid.rules in
+    let few = few_columns schema valid in
+    let small = values_small schema.columns row.rowid row.values rules.int8 rules.bits fits in
+    (omega (arith, few, small.0), omega (arith, few, small.1))
+
+rows_small : (f : Row → ℕ) (most : ℕ) (such : Row → Bool) (rows : List Row) → ((row : Row) → such row ≡ true → f row ≤ most) → list_all such rows ≡ true → sum_by f rows ≤ length rows * most
+rows_small f most such [] small all = omega arith
+rows_small f most such (r ∷ rs) small all =
+    let parts = and_parts (such r) (list_all such rs) all in
+    let one = small r parts.0 in
+    let rest = rows_small f most such rs small parts.1 in
+    let whole = sum_by-cons f r rs in
+    omega (arith, one, rest, whole)
+
+-- the bytes of all vectors of a valid table fit 64 bits
+pub vector_bytes-fit : (table : Table) → IsValidTable table → rows_vector_bytes table.rows < 2 ^ 64
+vector_bytes-fit table valid =
+    let few = leb-true (length table.rows) MOST_ROWS valid.few in
+    let small = rows_small row_vector_bytes (MOST_COLUMNS * MOST_DIMENSIONS) (is_valid_row table.schema.columns) table.rows (λ row fits. (row-bytes table.schema row valid.schema fits).0) valid.values in
+    omega (arith, few, small)
+
+-- and those of all texts and blobs
+pub side_bytes-fit : (table : Table) → IsValidTable table → rows_side_bytes table.rows < 2 ^ 64
+side_bytes-fit table valid =
+    let few = leb-true (length table.rows) MOST_ROWS valid.few in
+    let small = rows_small row_side_bytes (MOST_COLUMNS * MOST_VALUE_BYTES) (is_valid_row table.schema.columns) table.rows (λ row fits. (row-bytes table.schema row valid.schema fits).1) valid.values in
+    omega (arith, few, small)
