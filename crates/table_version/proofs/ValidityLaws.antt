@@ -1,17 +1,20 @@
 -- A table with one row more or less is valid, and what is known of a rowid that is assigned.
-use Rattle.std.proofs.Common.{◌≡◌, ℕ, ℤ, pos, ◌+ℤ◌, ◌+◌, ◌≤◌, Bool, true, false, cond, List, [], ◌∷◌, ◌∙◌, refl, sym, ap, arith, length, inl, inr, Option, Some, None}
-use Rattle.std.specs.Prelude.{◌||◌, not, filter, find, int_lt, int_le, if◌then◌else◌, FitsSigned, ⊤}
+use Rattle.std.proofs.Common.{◌≡◌, ℕ, ℤ, pos, ◌+ℤ◌, ◌+◌, ◌≤◌, Bool, true, false, cond, List, [], ◌∷◌, ◌∙◌, refl, sym, ap, ap₂, subst, arith, length, inl, inr, Option, Some, None}
+use Rattle.std.specs.Prelude.{◌||◌, not, filter, find, int_lt, int_le, nat_lt, sum_by, if◌then◌else◌, FitsSigned, ⊤}
 use Rattle.std.specs.Int.{w64}
-use Rattle.std.specs.List.{list_all, list_any}
+use Rattle.std.specs.List.{list_all, list_any, AllByRecursion}
 use Rattle.std.specs.Ordering.{int_eq}
 use Rattle.std.proofs.lemmas.Bool.{and_parts, and_from, cases_Bool, le-leb}
 use Rattle.std.proofs.lemmas.Int.{ints}
+use Rattle.std.proofs.lemmas.List.Sums.{sum_by-cons}
 use Rattle.vec_base.specs.declared.limits.TheConstants.{LAST_ROWID, MOST_ROWS}
 use Rattle.vec_base.specs.declared.refusal.Refusal.TheVariants.{Duplicate, RowidsSpent}
+use Rattle.vec_base.specs.declared.value.Value.{Value}
 use Rattle.row_model.specs.Change.{assigned, larger, same_id, spent, taken_rowid, with_new_row, with_rows}
 use Rattle.row_model.specs.RefusalOrder.{when}
-use Rattle.row_model.specs.Rows.{has_rowid, with_row}
-use Rattle.row_model.specs.Valid.{is_valid_row, have_own_ids, is_top, IsRepresentableRow, IsValidTable}
+use Rattle.row_model.specs.Rows.{has_rowid, with_row, is_rising}
+use Rattle.row_model.specs.Schemas.{count_of, is_key}
+use Rattle.row_model.specs.Valid.{are_valid_values, is_valid_row, have_own_ids, is_top, IsRepresentableRow, IsValidTable}
 use Rattle.row_model.specs.declared.row.Row.{Row}
 use Rattle.row_model.specs.declared.row.Table.{Table}
 use Rattle.row_model.specs.declared.schema.Column.{Column}
@@ -20,7 +23,9 @@ use Rattle.row_model.proofs.RowLaws.{is_rising-with_row}
 use Rattle.row_model.proofs.SelectLaws.{when_empty}
 use Rattle.row_model.proofs.ValidityRows.{same_id-sym, valid_filter}
 use Rattle.row_model.proofs.ValidityValues.{each_with_row, larger_last}
-use Rattle.table_version.proofs.ByteLaws.{without, none-found, without-none}
+use Rattle.table_version.proofs.ByteLaws.{without, sum-without}
+use Rattle.table_version.proofs.WeavingLaws.{same_id-texts}
+use Rattle.table_version.specs.inner.Weaving.{id_in, is_one_id}
 
 -- ---- what all rows pass with one more
 
@@ -155,3 +160,78 @@ assigned-fits table None valid fits =
   where
     next_fits : (top : ℤ) → int_le (pos 0) top ≡ true → int_lt top LAST_ROWID ≡ true → FitsSigned w64 (top +ℤ pos 1)
     next_fits top low high = grind (arith, ints)
+
+-- ---- rows that are found
+
+-- no row is found where none has the rowid
+pub found-none : (rowid : ℤ) (rows : List Row) → has_rowid rowid rows ≡ false → find (λ row. int_eq row.rowid rowid) rows ≡ None
+found-none rowid [] none = refl
+found-none rowid (r ∷ rs) none =
+    by_test (int_eq r.rowid rowid) (or_first (int_eq r.rowid rowid) (has_rowid rowid rs) none) (found-none rowid rs (or_second (int_eq r.rowid rowid) (has_rowid rowid rs) none))
+  where
+    by_test : (b : Bool) → b ≡ false → find (λ (row : Row). int_eq row.rowid rowid) rs ≡ None → cond b (Some r) (find (λ (row : Row). int_eq row.rowid rowid) rs) ≡ None
+    by_test true e rest = absurd cc
+    by_test false e rest = rest
+
+-- a row that is found is valid, and has the rowid
+pub record IsFound (columns : List Column) (rowid : ℤ) (row : Row) : Type 0 where
+  pub same : row.rowid ≡ rowid
+  pub valid : is_valid_row columns row ≡ true
+  pub representable : IsRepresentableRow row
+
+same_rowid : (n rowid : ℤ) → int_eq n rowid ≡ true → n ≡ rowid
+same_rowid n rowid h = grind (arith, ints)
+
+found_among : (columns : List Column) (rowid : ℤ) (rows : List Row) (row : Row) → list_all (is_valid_row columns) rows ≡ true → AllByRecursion IsRepresentableRow rows →
+    find (λ r. int_eq r.rowid rowid) rows ≡ Some row → IsFound columns rowid row
+found_among columns rowid [] row valid held found = absurd cc
+found_among columns rowid (r ∷ rs) row valid held found =
+    let parts = and_parts (is_valid_row columns r) (list_all (is_valid_row columns) rs) valid in
+    let this : int_eq r.rowid rowid ≡ true → IsFound columns rowid r = λ e. record { same = same_rowid r.rowid rowid e; valid = parts.0; representable = held.0 } in
+    by_test (int_eq r.rowid rowid) this (found_among columns rowid rs row parts.1 held.1) found
+  where
+    row_or : Option Row → Row
+    row_or None = r
+    row_or (Some x) = x
+
+    by_test : (b : Bool) → (b ≡ true → IsFound columns rowid r) → (find (λ (x : Row). int_eq x.rowid rowid) rs ≡ Some row → IsFound columns rowid row) →
+        cond b (Some r) (find (λ (x : Row). int_eq x.rowid rowid) rs) ≡ Some row → IsFound columns rowid row
+    by_test true here rest e = subst (λ (x : Row). IsFound columns rowid x) (ap row_or e) (here refl)
+    by_test false here rest e = rest e
+
+pub found-valid : (table : Table) (rowid : ℤ) (row : Row) → IsValidTable table → find (λ r. int_eq r.rowid rowid) table.rows ≡ Some row → IsFound table.schema.columns rowid row
+found-valid table rowid row valid found = found_among table.schema.columns rowid table.rows row valid.values valid.representable found
+
+-- the row of the rowid is one row
+pub length-without : (rowid : ℤ) (rows : List Row) (row : Row) → is_rising rows ≡ true → find (λ r. int_eq r.rowid rowid) rows ≡ Some row → length (without rowid rows) + 1 ≡ length rows
+length-without rowid rows row rising found =
+    let one = sum-without one_each rowid rows row rising found in
+    let less = counted (without rowid rows) in
+    let all = counted rows in
+    omega (arith, one, less, all)
+  where
+    one_each : Row → ℕ
+    one_each r = 1
+
+    counted : (rs : List Row) → sum_by one_each rs ≡ length rs
+    counted [] = refl
+    counted (r ∷ rs) = let step = sum_by-cons one_each r rs in let rest = counted rs in omega (arith, step, rest)
+
+-- no row of the others has the rowid
+pub has_rowid-without : (rowid : ℤ) (rows : List Row) → has_rowid rowid (without rowid rows) ≡ false
+has_rowid-without rowid [] = refl
+has_rowid-without rowid (r ∷ rs) =
+    elim (int_eq r.rowid rowid) as (λ b. int_eq r.rowid rowid ≡ b → has_rowid rowid (cond (not b) (r ∷ without rowid rs) (without rowid rs)) ≡ false)
+    [ true ↦ λ e. has_rowid-without rowid rs | false ↦ λ e. or_none (int_eq r.rowid rowid) (has_rowid rowid (without rowid rs)) e (has_rowid-without rowid rs) ] refl
+
+-- ---- rows of a text id
+
+-- the row of the same id is looked for by the texts alone
+pub find-same_id : (columns : List Column) (rowid : ℤ) (values : List Value) (rows : List Row) → nat_lt 1 (count_of is_key columns) ≡ false → are_valid_values columns rowid values ≡ true →
+    list_all (is_valid_row columns) rows ≡ true →
+    find (λ r. same_id columns values r.values) rows ≡ find (λ r. is_one_id (id_in columns values) (id_in columns r.values)) rows
+find-same_id columns rowid values [] few valid all = refl
+find-same_id columns rowid values (r ∷ rs) few valid all =
+    let parts = and_parts (is_valid_row columns r) (list_all (is_valid_row columns) rs) all in
+    ap₂ (λ (b : Bool) (rest : Option Row). cond b (Some r) rest)
+    (same_id-texts columns rowid r.rowid values r.values few valid parts.0) (find-same_id columns rowid values rs few valid parts.1)
