@@ -1,4 +1,5 @@
 pub mod ByteLaws
+pub mod GrowthLaws
 pub mod KeptLaws
 pub mod SchemaShape
 pub mod ValidityLaws
