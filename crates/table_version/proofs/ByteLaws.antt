@@ -1,7 +1,7 @@
 -- How many bytes rows have: within 64 bits, and what one row more or less makes of it.
 use Rattle.std.proofs.Common.{◌≡◌, ℕ, zero, suc, ℤ, ◌+◌, ◌*◌, ◌<◌, ◌≤◌, Bool, true, false, cond, List, [], ◌∷◌, ◌∙◌, refl, sym, ap, subst, arith, length, Option, Some, None}
 use Rattle.std.specs.Prelude.{◌==◌, ◌%◌, ◌^◌, ◌&&◌, ◌||◌, not, filter, find, int_lt, nat_le, sum_by, if◌then◌else◌}
-use Rattle.std.specs.List.{list_all, list_any}
+use Rattle.std.specs.List.{list_all, list_any, AllByRecursion}
 use Rattle.std.specs.Ordering.{int_eq}
 use Rattle.std.proofs.lemmas.Bool.{and_parts, eqb-true, leb-true}
 use Rattle.std.proofs.lemmas.Int.{ints}
@@ -109,9 +109,9 @@ side_bytes-without rowid rows row rising found = sum-without row_side_bytes rowi
 -- ---- within 64 bits
 
 -- a value has no more bytes than a vector or a text may have
-record IsSmall (value : Value) : Type 0 where
-  vector : vector_bytes value ≤ MOST_DIMENSIONS
-  side : side_bytes value ≤ MOST_VALUE_BYTES
+pub record IsSmall (value : Value) : Type 0 where
+  pub vector : vector_bytes value ≤ MOST_DIMENSIONS
+  pub side : side_bytes value ≤ MOST_VALUE_BYTES
 
 null_small : (value : Value) → is_null value ≡ true → IsSmall value
 null_small Null h = record { vector = omega arith; side = omega arith }
@@ -232,3 +232,20 @@ side_bytes-fit table valid =
     let few = leb-true (length table.rows) MOST_ROWS valid.few in
     let small = rows_small row_side_bytes (MOST_COLUMNS * MOST_VALUE_BYTES) (is_valid_row table.schema.columns) table.rows (λ row fits. (row-bytes table.schema row valid.schema fits).1) valid.values in
     omega (arith, few, small)
+
+all_small : (columns : List Column) (rowid : ℤ) (values : List Value) → has_some is_misfit_int8 columns ≡ false → has_some is_misfit_bits columns ≡ false →
+    are_valid_values columns rowid values ≡ true → AllByRecursion IsSmall values
+all_small [] rowid [] int8 bits valid = tt
+all_small [] rowid (value ∷ values) int8 bits valid = absurd cc
+all_small (column ∷ columns) rowid [] int8 bits valid = absurd cc
+all_small (column ∷ columns) rowid (value ∷ values) int8 bits valid =
+    let parts = and_parts (is_valid_value column.kind rowid value) (are_valid_values columns rowid values) valid in
+    let narrow = width_most column.kind (or_first (is_misfit_int8 column.kind) (has_some is_misfit_int8 columns) int8) (or_first (is_misfit_bits column.kind) (has_some is_misfit_bits columns) bits) in
+    (
+      valid_small column.kind rowid value narrow parts.0,
+      all_small columns rowid values (or_second (is_misfit_int8 column.kind) (has_some is_misfit_int8 columns) int8) (or_second (is_misfit_bits column.kind) (has_some is_misfit_bits columns) bits) parts.1,
+    )
+
+-- each value of a valid row is small
+pub values-small : (schema : Schema) (rowid : ℤ) (values : List Value) → IsValidSchema schema → are_valid_values schema.columns rowid values ≡ true → AllByRecursion IsSmall values
+values-small schema rowid values valid fits = let rules = faultless schema valid.rules in all_small schema.columns rowid values rules.int8 rules.bits fits

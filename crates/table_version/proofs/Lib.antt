@@ -1,5 +1,6 @@
 pub mod ByteLaws
 pub mod GrowthLaws
+pub mod KeptBytes
 pub mod KeptLaws
 pub mod SchemaShape
 pub mod ValidityLaws

@@ -43,7 +43,7 @@ text_shape (Blob bytes) h = absurd cc
 text_shape (Int8 vector) h = absurd cc
 text_shape (Bits vector) h = absurd cc
 
-int8_shape : (value : Value) → is_int8 value ≡ true → (vector : List ℕ) × (value ≡ Int8 vector)
+pub int8_shape : (value : Value) → is_int8 value ≡ true → (vector : List ℕ) × (value ≡ Int8 vector)
 int8_shape (Int8 vector) h = (vector, refl)
 int8_shape Null h = absurd cc
 int8_shape (Int n) h = absurd cc
@@ -51,7 +51,7 @@ int8_shape (Text text) h = absurd cc
 int8_shape (Blob bytes) h = absurd cc
 int8_shape (Bits vector) h = absurd cc
 
-bits_shape : (value : Value) → is_bits value ≡ true → (vector : List ℕ) × (value ≡ Bits vector)
+pub bits_shape : (value : Value) → is_bits value ≡ true → (vector : List ℕ) × (value ≡ Bits vector)
 bits_shape (Bits vector) h = (vector, refl)
 bits_shape Null h = absurd cc
 bits_shape (Int n) h = absurd cc
@@ -62,7 +62,7 @@ bits_shape (Int8 vector) h = absurd cc
 same_number : (n rowid : ℤ) → int_eq n rowid ≡ true → n ≡ rowid
 same_number n rowid h = grind (arith, ints)
 
-number_shape : (rowid : ℤ) (value : Value) → is_number rowid value ≡ true → value ≡ Int rowid
+pub number_shape : (rowid : ℤ) (value : Value) → is_number rowid value ≡ true → value ≡ Int rowid
 number_shape rowid (Int n) h = ap Int (same_number n rowid h)
 number_shape rowid Null h = absurd cc
 number_shape rowid (Text text) h = absurd cc
@@ -71,11 +71,11 @@ number_shape rowid (Int8 vector) h = absurd cc
 number_shape rowid (Bits vector) h = absurd cc
 
 -- where no NULL is taken, the value fits
-not_null : (none fits : Bool) → (if none then false else fits) ≡ true → fits ≡ true
+pub not_null : (none fits : Bool) → (if none then false else fits) ≡ true → fits ≡ true
 not_null true fits h = absurd cc
 not_null false fits h = h
 
-typed : (kind : Kind) (value : Value) → is_fitting kind value ≡ true → is_of_kind kind value ≡ true
+pub typed : (kind : Kind) (value : Value) → is_fitting kind value ≡ true → is_of_kind kind value ≡ true
 typed kind value h = (and_parts (is_of_kind kind value) _ h).0
 
 shaped : (kind : Kind) (value : Value) → is_fitting kind value ≡ true → width_of kind ≡ dimensions value
@@ -172,7 +172,7 @@ one_if b = cond b 1 0
 keys_step : (column : Column) (columns : List Column) → count_of is_key (column ∷ columns) ≡ one_if (is_key column.kind) + count_of is_key columns
 keys_step column columns = sum_by-cons (λ (c : Column). one_if (is_key c.kind)) column columns
 
-fewer_keys : (column : Column) (columns : List Column) → count_of is_key (column ∷ columns) ≤ 1 → count_of is_key columns ≤ 1
+pub fewer_keys : (column : Column) (columns : List Column) → count_of is_key (column ∷ columns) ≤ 1 → count_of is_key columns ≤ 1
 fewer_keys column columns few = let step = keys_step column columns in omega (arith, few, step)
 
 -- behind a key there is none
@@ -195,7 +195,7 @@ no_text_key (column ∷ columns) few =
         let more = keys_step column columns in
         absurd (omega (arith, few, more, key))
 
-no_id_behind : (column : Column) (columns : List Column) → count_of is_key (column ∷ columns) ≤ 1 → is_text_key column.kind ≡ true → has_text_key columns ≡ false
+pub no_id_behind : (column : Column) (columns : List Column) → count_of is_key (column ∷ columns) ≤ 1 → is_text_key column.kind ≡ true → has_text_key columns ≡ false
 no_id_behind column columns few text = no_text_key columns (keys_behind column columns 0 few text)
 
 -- ---- the values again
