@@ -1,7 +1,7 @@
 -- How many bytes rows have: within 64 bits, and what one row more or less makes of it.
-use Rattle.std.proofs.Common.{◌≡◌, ℕ, zero, suc, ℤ, ◌+◌, ◌*◌, ◌<◌, ◌≤◌, Bool, true, false, cond, List, [], ◌∷◌, ◌∙◌, refl, sym, ap, subst, arith, length, Option, Some, None}
+use Rattle.std.proofs.Common.{◌≡◌, ℕ, ℤ, ◌+◌, ◌*◌, ◌<◌, ◌≤◌, Bool, true, false, cond, List, [], ◌∷◌, ◌∙◌, refl, sym, ap, arith, length, Option, Some, None}
 use Rattle.std.specs.Prelude.{◌==◌, ◌%◌, ◌^◌, ◌&&◌, ◌||◌, not, filter, find, int_lt, nat_le, sum_by, if◌then◌else◌}
-use Rattle.std.specs.List.{list_all, list_any, AllByRecursion}
+use Rattle.std.specs.List.{list_all, AllByRecursion}
 use Rattle.std.specs.Ordering.{int_eq}
 use Rattle.std.proofs.lemmas.Bool.{and_parts, eqb-true, leb-true}
 use Rattle.std.proofs.lemmas.Int.{ints}
@@ -196,7 +196,7 @@ values_small (column ∷ columns) rowid (value ∷ values) int8 bits valid =
     let narrow = width_most column.kind (or_first (is_misfit_int8 column.kind) (has_some is_misfit_int8 columns) int8) (or_first (is_misfit_bits column.kind) (has_some is_misfit_bits columns) bits) in
     let one = valid_small column.kind rowid value narrow parts.0 in
     let rest = values_small columns rowid values (or_second (is_misfit_int8 column.kind) (has_some is_misfit_int8 columns) int8)
-        (or_second (is_misfit_bits column.kind) (has_some is_misfit_bits columns) bits) parts.1 in
+    (or_second (is_misfit_bits column.kind) (has_some is_misfit_bits columns) bits) parts.1 in
     let vectors = sum_by-cons vector_bytes value values in
     let sides = sum_by-cons side_bytes value values in
     (omega (arith, vectors, one.vector, rest.0), omega (arith, sides, one.side, rest.1))
@@ -240,8 +240,7 @@ all_small [] rowid (value ∷ values) int8 bits valid = absurd cc
 all_small (column ∷ columns) rowid [] int8 bits valid = absurd cc
 all_small (column ∷ columns) rowid (value ∷ values) int8 bits valid =
     let parts = and_parts (is_valid_value column.kind rowid value) (are_valid_values columns rowid values) valid in
-    let narrow = width_most column.kind (or_first (is_misfit_int8 column.kind) (has_some is_misfit_int8 columns) int8) (or_first (is_misfit_bits column.kind) (has_some is_misfit_bits columns) bits) in
-    (
+    let narrow = width_most column.kind (or_first (is_misfit_int8 column.kind) (has_some is_misfit_int8 columns) int8) (or_first (is_misfit_bits column.kind) (has_some is_misfit_bits columns) bits) in (
       valid_small column.kind rowid value narrow parts.0,
       all_small columns rowid values (or_second (is_misfit_int8 column.kind) (has_some is_misfit_int8 columns) int8) (or_second (is_misfit_bits column.kind) (has_some is_misfit_bits columns) bits) parts.1,
     )

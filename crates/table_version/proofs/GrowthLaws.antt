@@ -1,12 +1,12 @@
 -- A row that nothing refuses: what that says of it, and that the table stays valid with it.
-use Rattle.std.proofs.Common.{◌≡◌, ℕ, ℤ, ◌+◌, ◌≤◌, Bool, true, false, List, [], ◌∷◌, ◌++◌, ◌∙◌, refl, sym, ap, subst, arith, length, Option, Some, None, Ok}
+use Rattle.std.proofs.Common.{◌≡◌, ℤ, ◌+◌, ◌≤◌, Bool, true, false, List, [], ◌∷◌, ◌++◌, ◌∙◌, refl, ap, arith, length, Option, Some, None, Ok}
 use Rattle.std.specs.Prelude.{find, int_lt, if◌then◌else◌}
 use Rattle.std.specs.List.{list_all, AllByRecursion}
 use Rattle.std.proofs.lemmas.Bool.{and_parts}
 use Rattle.vec_base.specs.declared.limits.TheConstants.{MOST_ROWS, MOST_SIDE_BYTES, MOST_VECTOR_BYTES}
 use Rattle.vec_base.specs.declared.refusal.Refusal.{Refusal}
 use Rattle.vec_base.specs.declared.value.Value.{Value}
-use Rattle.row_model.specs.Change.{Elsewhere, assigned, duplicate, given_rowid, group_refusals, grown, long_values, new_row, or_grown, room_refusals, row_refusals, rows_side_bytes, rows_vector_bytes, same_id, spent, taken_id, taken_rowid, with_new_row}
+use Rattle.row_model.specs.Change.{Elsewhere, assigned, duplicate, group_refusals, grown, long_values, new_row, or_grown, room_refusals, row_refusals, rows_side_bytes, rows_vector_bytes, same_id, spent, taken_id, taken_rowid, with_new_row}
 use Rattle.row_model.specs.Limits.{over_rows, over_sides, over_vectors}
 use Rattle.row_model.specs.RefusalOrder.{first}
 use Rattle.row_model.specs.Rows.{has_rowid, with_row}

@@ -1,6 +1,6 @@
 -- The bytes of a row, counted by what is kept of it.
-use Rattle.std.proofs.Common.{◌≡◌, ℕ, suc, ℤ, ◌+◌, ◌*◌, ◌≤◌, Bool, true, false, cond, List, [], ◌∷◌, ◌∙◌, refl, sym, ap, ap₂, subst, arith, map, length, Option, Some, None}
-use Rattle.std.specs.Prelude.{◌||◌, nat_lt, sum_by, if◌then◌else◌}
+use Rattle.std.proofs.Common.{◌≡◌, ℕ, ℤ, ◌+◌, ◌*◌, ◌≤◌, Bool, true, false, cond, List, [], ◌∷◌, ◌∙◌, refl, ap, arith, map, length, Option, Some, None}
+use Rattle.std.specs.Prelude.{nat_lt, sum_by, if◌then◌else◌}
 use Rattle.std.specs.List.{list_all, cons_option, AllByRecursion}
 use Rattle.std.proofs.lemmas.Bool.{and_parts, ltb-false}
 use Rattle.std.proofs.lemmas.List.Sums.{sum_by-cons}
@@ -8,12 +8,11 @@ use Rattle.vec_base.specs.declared.limits.TheConstants.{MOST_VALUE_BYTES}
 use Rattle.vec_base.specs.declared.value.Value.{Value}
 use Rattle.vec_base.specs.declared.value.Value.TheVariants.{Null, Int, Text, Blob, Int8, Bits}
 use Rattle.row_model.specs.Change.{rows_vector_bytes}
-use Rattle.row_model.specs.ColumnNames.{is_text_key, has_text_key}
+use Rattle.row_model.specs.ColumnNames.{is_text_key}
 use Rattle.row_model.specs.Schemas.{is_key, is_partition, is_metadata, is_auxiliary, count_of, has_some, IsValidSchema}
-use Rattle.row_model.specs.Valid.{is_fitting, is_valid_value, are_valid_values, is_valid_row, IsValidTable}
+use Rattle.row_model.specs.Valid.{is_fitting, is_valid_value, are_valid_values, is_valid_row}
 use Rattle.row_model.specs.Values.{is_null, is_text, side_bytes, vector_bytes, row_vector_bytes}
 use Rattle.row_model.specs.declared.row.Row.{Row}
-use Rattle.row_model.specs.declared.row.Table.{Table}
 use Rattle.row_model.specs.declared.schema.Column.{Column}
 use Rattle.row_model.specs.declared.schema.Kind.{Kind}
 use Rattle.row_model.specs.declared.schema.Kind.TheVariants.{IntKey, TextKey, Int8Vector, BitVector, IntPartition, TextPartition, IntMeta, TextMeta, BoolMeta, IntAux, TextAux, BlobAux}
@@ -136,7 +135,7 @@ sides (column ∷ columns) rowid [] no_metadata no_auxiliary few valid = absurd 
 sides (column ∷ columns) rowid (value ∷ values) no_metadata no_auxiliary few valid =
     let parts = and_parts (is_valid_value column.kind rowid value) (are_valid_values columns rowid values) valid in
     let rest = sides columns rowid values (or_second (is_metadata column.kind) (has_some is_metadata columns) no_metadata)
-        (or_second (is_auxiliary column.kind) (has_some is_auxiliary columns) no_auxiliary) (fewer_keys column columns few) parts.1 in
+    (or_second (is_auxiliary column.kind) (has_some is_auxiliary columns) no_auxiliary) (fewer_keys column columns few) parts.1 in
     let whole = sum_by-cons side_bytes value values in
     let part = partition_bytes (is_partition column.kind) value (partition_of columns values) in
     by_test (is_text_key column.kind) (is_partition column.kind) rest whole part

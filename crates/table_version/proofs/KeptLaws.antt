@@ -1,19 +1,18 @@
 -- What is kept of a row: what holds of all its values holds of that too, and it comes back from the values that are put together.
-use Rattle.std.proofs.Common.{◌≡◌, ℕ, suc, ℤ, ◌+◌, ◌≤◌, Bool, true, false, cond, List, [], ◌∷◌, ◌∙◌, refl, sym, ap, ap₂, subst, arith, length, Option, Some, None}
-use Rattle.std.specs.Prelude.{◌&&◌, ◌||◌, nat_lt, is_some, if◌then◌else◌}
+use Rattle.std.proofs.Common.{◌≡◌, ℕ, ℤ, ◌+◌, ◌≤◌, Bool, true, false, cond, List, [], ◌∷◌, ◌∙◌, refl, sym, ap, subst, arith, length, Option, Some, None}
+use Rattle.std.specs.Prelude.{◌||◌, is_some, if◌then◌else◌}
 use Rattle.std.specs.List.{list_all, cons_option, AllByRecursion}
 use Rattle.std.specs.Str.{is_utf8}
 use Rattle.std.proofs.lemmas.Bool.{and_parts, ltb-false}
 use Rattle.std.proofs.lemmas.List.Sums.{sum_by-cons}
 use Rattle.vec_base.specs.Representable.{AreBytes, IsRepresentable}
-use Rattle.vec_base.specs.declared.limits.TheConstants.{MOST_PARTITION_COLUMNS, MOST_VALUE_BYTES}
+use Rattle.vec_base.specs.declared.limits.TheConstants.{MOST_PARTITION_COLUMNS}
 use Rattle.vec_base.specs.declared.value.Value.{Value}
 use Rattle.vec_base.specs.declared.value.Value.TheVariants.{Null, Int, Text, Blob, Int8, Bits}
 use Rattle.row_model.specs.ColumnNames.{is_text_key, has_text_key}
 use Rattle.row_model.specs.RepresentableStatements.{AreRepresentable}
 use Rattle.row_model.specs.Schemas.{is_vector, is_partition, count_of, IsValidSchema}
 use Rattle.row_model.specs.Valid.{is_valid_value, are_valid_values}
-use Rattle.row_model.specs.Values.{side_bytes}
 use Rattle.row_model.specs.declared.schema.Column.{Column}
 use Rattle.row_model.specs.declared.schema.Kind.{Kind}
 use Rattle.row_model.specs.declared.schema.Kind.TheVariants.{IntKey, TextKey, Int8Vector, BitVector, IntPartition, TextPartition, IntMeta, TextMeta, BoolMeta, IntAux, TextAux, BlobAux}
@@ -236,7 +235,7 @@ vectors-again (column ∷ columns) rowid id partition vectors len all =
     let step = count_step is_vector column columns in
     let others = past (is_partition column.kind) partition in
     let rest = vectors-again columns rowid id others (past (is_vector column.kind) vectors) (length_past (is_vector column.kind) vectors (count_of is_vector columns) (len ∙ step))
-        (past_all (is_partition column.kind) partition all) in
+    (past_all (is_partition column.kind) partition all) in
     ap (λ (xs : List (List ℕ)). cons_option (vector_of (woven_value column.kind rowid id partition vectors)) xs) rest
     ∙ by_test (is_vector column.kind) vectors (len ∙ step) (λ vector more e. vector_value column.kind rowid id partition vector more e)
     (λ e. other_value column.kind rowid id partition vectors e all)

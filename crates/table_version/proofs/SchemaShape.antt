@@ -1,9 +1,9 @@
 -- The chunk size of a valid schema.
-use Rattle.std.proofs.Common.{◌≡◌, ℕ, ◌≤◌, Bool, true, false, List, [], ◌∷◌, ◌++◌, refl, arith, Option, Some, None}
+use Rattle.std.proofs.Common.{◌≡◌, ℕ, ◌≤◌, Bool, true, false, List, [], ◌∷◌, ◌++◌, refl, Option, Some, None}
 use Rattle.std.specs.Prelude.{◌==◌, ◌%◌, ◌&&◌, nat_lt, nat_le, if◌then◌else◌}
 use Rattle.std.proofs.lemmas.Bool.{and_parts, eqb-true, leb-true}
 use Rattle.vec_base.specs.declared.limits.TheConstants.{MOST_CHUNK_SIZE}
-use Rattle.row_model.specs.Schemas.{is_key, is_vector, is_partition, is_metadata, is_auxiliary, count_of, has_some, has_twins, takes_hidden_name, is_misfit_int8, is_misfit_bits, is_misfit_chunk, is_eights, schema_fault, IsValidSchema}
+use Rattle.row_model.specs.Schemas.{is_key, is_vector, is_partition, is_metadata, is_auxiliary, count_of, has_some, has_twins, takes_hidden_name, is_misfit_int8, is_misfit_bits, is_misfit_chunk, is_eights, IsValidSchema}
 use Rattle.row_model.specs.declared.schema.Schema.{Schema}
 use Rattle.row_model.proofs.BoolLaws.{not_false}
 

@@ -1,5 +1,5 @@
 -- A table with one row more or less is valid, and what is known of a rowid that is assigned.
-use Rattle.std.proofs.Common.{◌≡◌, ℕ, ℤ, pos, ◌+ℤ◌, ◌+◌, ◌≤◌, Bool, true, false, cond, List, [], ◌∷◌, ◌∙◌, refl, sym, ap, ap₂, subst, arith, length, inl, inr, Option, Some, None}
+use Rattle.std.proofs.Common.{◌≡◌, ℕ, ℤ, pos, ◌+ℤ◌, ◌+◌, ◌≤◌, Bool, true, false, cond, List, [], ◌∷◌, ◌∙◌, refl, ap, ap₂, subst, arith, length, inl, inr, Option, Some, None}
 use Rattle.std.specs.Prelude.{◌||◌, not, filter, find, int_lt, int_le, nat_lt, sum_by, if◌then◌else◌, FitsSigned, ⊤}
 use Rattle.std.specs.Int.{w64}
 use Rattle.std.specs.List.{list_all, list_any, AllByRecursion}
@@ -11,7 +11,6 @@ use Rattle.vec_base.specs.declared.limits.TheConstants.{LAST_ROWID, MOST_ROWS}
 use Rattle.vec_base.specs.declared.refusal.Refusal.TheVariants.{Duplicate, RowidsSpent}
 use Rattle.vec_base.specs.declared.value.Value.{Value}
 use Rattle.row_model.specs.Change.{assigned, larger, same_id, spent, taken_rowid, with_new_row, with_rows}
-use Rattle.row_model.specs.RefusalOrder.{when}
 use Rattle.row_model.specs.Rows.{has_rowid, with_row, is_rising}
 use Rattle.row_model.specs.Schemas.{count_of, is_key}
 use Rattle.row_model.specs.Valid.{are_valid_values, is_valid_row, have_own_ids, is_top, IsRepresentableRow, IsValidTable}

@@ -1,7 +1,7 @@
 -- The values of a row come back from what is kept of it, and what its vectors and text ids are like.
 use Rattle.std.proofs.Common.{◌≡◌, ℕ, zero, suc, ℤ, ◌+◌, ◌≤◌, Bool, true, false, cond, List, [], ◌∷◌, ◌∙◌, refl, sym, ap, ap₂, subst, arith, map, length, Option, Some, None}
 use Rattle.std.specs.Prelude.{◌==◌, ◌*◌, ◌/◌, ◌%◌, ◌&&◌, ◌||◌, not, nat_lt, nat_le, bytes_eq, is_some, if◌then◌else◌}
-use Rattle.std.specs.List.{list_all, list_any, cons_option, All, AllByRecursion}
+use Rattle.std.specs.List.{list_all, cons_option, All, AllByRecursion}
 use Rattle.std.specs.Ordering.{int_eq}
 use Rattle.std.proofs.lemmas.Bool.{and_parts, and_from, eqb-true, leb-true, ltb-false}
 use Rattle.std.proofs.lemmas.Int.{ints}
@@ -23,7 +23,7 @@ use Rattle.row_model.proofs.SchemaLaws.{faultless}
 use Rattle.shadow_records.specs.PlacedTables.{partition_of}
 use Rattle.chunk_slots.specs.Slots.{vector_of, vectors_of}
 use Rattle.vec_base.specs.declared.limits.TheConstants.{MOST_DIMENSIONS, MOST_VALUE_BYTES, MOST_VECTOR_COLUMNS}
-use Rattle.table_version.specs.inner.Weaving.{id_text, text_in, id_in, is_one_id, is_partition_value, vector_width, widths_of, next_value, next_vector, past, woven_value, woven}
+use Rattle.table_version.specs.inner.Weaving.{id_text, text_in, id_in, is_one_id, is_partition_value, vector_width, widths_of, past, woven_value, woven}
 
 -- ---- what a value of a type is
 
@@ -245,8 +245,8 @@ woven_again (column ∷ columns) rowid (value ∷ values) no_metadata no_auxilia
     let partition = partition_of columns values in
     let vectors = vectors_of values in
     let rest = woven_again columns rowid values (or_second (is_metadata column.kind) (has_some is_metadata columns) no_metadata)
-        (or_second (is_auxiliary column.kind) (has_some is_auxiliary columns) no_auxiliary) (fewer_keys column columns few)
-        (and_parts (is_valid_value column.kind rowid value) (are_valid_values columns rowid values) valid).1 in
+    (or_second (is_auxiliary column.kind) (has_some is_auxiliary columns) no_auxiliary) (fewer_keys column columns few)
+    (and_parts (is_valid_value column.kind rowid value) (are_valid_values columns rowid values) valid).1 in
     ap₂ (λ (x : Value) (xs : List Value). x ∷ xs)
     (one.back id partition vectors (λ text. own (is_text_key column.kind) text))
     (ap₂ (λ (p : List Value) (v : List (List ℕ)). woven columns rowid id p v) (past_part (is_partition column.kind) value partition) (one.rest vectors)
