@@ -1,17 +1,16 @@
 -- A table whose rows have sound places keeps them with one row more or less.
-use Rattle.std.proofs.Common.{◌≡◌, ℕ, suc, ℤ, ◌+◌, ◌<◌, ◌≤◌, Bool, true, false, cond, List, [], ◌∷◌, ◌∙◌, refl, sym, ap, subst, arith, length, Option, Some, None}
-use Rattle.std.specs.Prelude.{◌==◌, ◌&&◌, not, filter, find, int_lt, slice_index_or, if◌then◌else◌}
+use Rattle.std.proofs.Common.{◌≡◌, ℕ, suc, ℤ, ◌+◌, ◌<◌, ◌≤◌, Bool, true, false, cond, List, [], ◌∷◌, ◌∙◌, refl, sym, ap, subst, arith, length, Some, None}
+use Rattle.std.specs.Prelude.{◌==◌, ◌&&◌, not, find, int_lt, slice_index_or, if◌then◌else◌}
 use Rattle.std.specs.List.{list_all, AllByRecursion, AllPairs}
 use Rattle.std.specs.Ordering.{int_eq}
 use Rattle.std.proofs.lemmas.Bool.{and_parts, and_from, eqb-true, eq-eqb}
 use Rattle.std.proofs.lemmas.List.Elements.{All-from_recursion}
 use Rattle.std.proofs.lemmas.List.Kept.{AllPairs-cons, AllPairs-filter}
 use Rattle.vec_base.specs.declared.limits.TheConstants.{MOST_ROWS}
-use Rattle.row_model.specs.Change.{same_id, with_new_row, with_rows}
+use Rattle.row_model.specs.Change.{same_id, with_rows}
 use Rattle.row_model.specs.Rows.{has_rowid, with_row}
 use Rattle.row_model.specs.Valid.{is_valid_row, IsRepresentableRow, IsValidTable}
 use Rattle.row_model.specs.declared.row.Row.{Row}
-use Rattle.row_model.specs.declared.row.Table.{Table}
 use Rattle.row_model.specs.declared.schema.Column.{Column}
 use Rattle.row_model.proofs.ValidityRows.{all_filter}
 use Rattle.shadow_records.specs.PlacedTables.{PlacedRow, PlacedTable, plain_rows, plain, is_at, row_at, first_in, partition_of, is_place, AreApart, AreAlike, IsPlaced}
