@@ -1,6 +1,6 @@
 -- Entries by rising rowids: what is found by a rowid, and what one entry more or less makes of them.
-use Rattle.std.proofs.Common.{◌≡◌, ℕ, zero, suc, ℤ, int_lt, ◌+◌, ◌<◌, ◌≤◌, Bool, true, false, not, cond, if◌then◌else◌, Result, Ok, Err, is_ok, List, [], ◌∷◌, length, get_or, Less, Equal, Greater, refl, sym, ap, ◌∙◌, arith, Some, None, ⊎_elim}
-use Rattle.std.specs.List.{AllByRecursion, insert, remove, find, list_all, list_any}
+use Rattle.std.proofs.Common.{◌≡◌, ℕ, zero, suc, ℤ, int_lt, ◌+◌, ◌<◌, ◌≤◌, Bool, true, false, not, cond, if◌then◌else◌, Result, Ok, Err, is_ok, List, [], ◌∷◌, length, get_or, Less, Equal, Greater, refl, ap, ◌∙◌, arith, Some, None, ⊎_elim}
+use Rattle.std.specs.List.{AllByRecursion, insert, remove, list_all}
 use Rattle.std.specs.List.Sorted.{IsPartitionPoint, IsStrictlySortedBy}
 use Rattle.std.specs.Option.{option_map}
 use Rattle.std.specs.Ordering.{int_cmp, int_eq, is_eq}
@@ -57,10 +57,10 @@ pub has_rowid_nowhere : (rowid : ℤ) (entries : List Entry) (at : ℕ) → IsGa
 has_rowid_nowhere rowid entries at gap =
     list_any_none (λ (e : Entry). int_eq e.rowid rowid) entries
     (λ i d within.
-        ⊎_elim
-        (λ (lt : i < at). ap is_eq (gap.0 i d (omega arith) lt))
-        (λ (ge : at ≤ i). ap is_eq (gap.1 i d ge within))
-        (cases_lt i at))
+    ⊎_elim
+    (λ (lt : i < at). ap is_eq (gap.0 i d (omega arith) lt))
+    (λ (ge : at ≤ i). ap is_eq (gap.1 i d ge within))
+    (cases_lt i at))
 
 -- rowids up to one, and those above it
 abbrev pub IsPlaceAfter : Option ℤ → List Entry → ℕ → Type 0
@@ -78,8 +78,8 @@ after_entry rowid entries at rise within equal = (
       ⊎_elim
       (λ (lt : k < at). not_lt_from_less (get_or entries k d).rowid rowid (less_before int_cmp int_cmp_total (λ (e : Entry). e.rowid) rowid entries at k d rise within (equal d) lt))
       (λ (ge : at ≤ k).
-          let is : k ≡ at = omega arith in
-          ap (λ n. int_lt rowid (get_or entries n d).rowid) is ∙ not_lt_from_equal (get_or entries at d).rowid rowid (equal d))
+      let is : k ≡ at = omega arith in
+      ap (λ n. int_lt rowid (get_or entries n d).rowid) is ∙ not_lt_from_equal (get_or entries at d).rowid rowid (equal d))
       (cases_lt k at)),
   (λ k d low high. lt_from_greater (get_or entries k d).rowid rowid (greater_behind int_cmp int_cmp_total (λ (e : Entry). e.rowid) rowid entries at k d rise (equal d) (omega arith) high)),
 )
@@ -116,19 +116,19 @@ without-remove rowid entries at d rise lt equal =
     filter-remove (λ (e : Entry). not (int_eq e.rowid rowid)) entries at d lt
     (ap (λ o. not (is_eq o)) (equal d))
     (λ k e within differs.
-        ⊎_elim
-        (λ (below : k < at). ap (λ o. not (is_eq o)) (less_before int_cmp int_cmp_total (λ (x : Entry). x.rowid) rowid entries at k e rise lt (equal e) below))
-        (λ (above : at ≤ k). ap (λ o. not (is_eq o)) (greater_behind int_cmp int_cmp_total (λ (x : Entry). x.rowid) rowid entries at k e rise (equal e) (omega (arith, differs)) within))
-        (cases_lt k at))
+    ⊎_elim
+    (λ (below : k < at). ap (λ o. not (is_eq o)) (less_before int_cmp int_cmp_total (λ (x : Entry). x.rowid) rowid entries at k e rise lt (equal e) below))
+    (λ (above : at ≤ k). ap (λ o. not (is_eq o)) (greater_behind int_cmp int_cmp_total (λ (x : Entry). x.rowid) rowid entries at k e rise (equal e) (omega (arith, differs)) within))
+    (cases_lt k at))
 
 pub without_nowhere : (rowid : ℤ) (entries : List Entry) (at : ℕ) → IsGap (λ entry. int_cmp entry.rowid rowid) entries at → without rowid entries ≡ entries
 without_nowhere rowid entries at gap =
     filter_all (λ (e : Entry). not (int_eq e.rowid rowid)) entries
     (λ i d within.
-        ⊎_elim
-        (λ (lt : i < at). ap (λ o. not (is_eq o)) (gap.0 i d (omega arith) lt))
-        (λ (ge : at ≤ i). ap (λ o. not (is_eq o)) (gap.1 i d ge within))
-        (cases_lt i at))
+    ⊎_elim
+    (λ (lt : i < at). ap (λ o. not (is_eq o)) (gap.0 i d (omega arith) lt))
+    (λ (ge : at ≤ i). ap (λ o. not (is_eq o)) (gap.1 i d ge within))
+    (cases_lt i at))
 
 -- ---- rowids rise
 

@@ -1,6 +1,6 @@
 -- Entries whose ids are paired with their rowids: the entry of an id, and that they stay paired.
 use Rattle.std.proofs.Common.{◌≡◌, ℕ, ℤ, int_lt, ◌<◌, Bool, true, false, not, cond, if◌then◌else◌, Result, Ok, Err, is_ok, Bor, subst, ◌||◌, List, [], ◌∷◌, length, get_or, Less, Equal, refl, sym, ap, ◌∙◌, Some, None}
-use Rattle.std.specs.Prelude.{bytes_eq, ⊤}
+use Rattle.std.specs.Prelude.{⊤}
 use Rattle.std.specs.List.{AllByRecursion, HoldsAt, find, list_any}
 use Rattle.std.specs.List.Sorted.{IsStrictlySortedBy}
 use Rattle.std.specs.Option.{IfSome, MatchOption, option_copied, option_map}
@@ -13,7 +13,7 @@ use Rattle.std.proofs.lemmas.Option.{MatchOption-at_some, same_Some, none-some}
 use Rattle.std.proofs.lemmas.Slice.Eq.{bytes_eq-Decides}
 use Rattle.row_index.specs.declared.entry.Entry.{Entry}
 use Rattle.row_index.specs.declared.entry.IdPair.{IdPair}
-use Rattle.row_index.specs.Entries.{entry_of, has_id, has_rowid, have_own_ids, is_same_id, is_text, rowid_of, with_entry, without}
+use Rattle.row_index.specs.Entries.{entry_of, has_id, have_own_ids, is_same_id, is_text, rowid_of, with_entry, without}
 use Rattle.row_index.specs.inner.Pairs.{IdsRise, IsIndexed, IsPaired, RowidsRise, paired}
 use Rattle.row_index.proofs.FindLaws.{all-filter, all_turned, all_at, find_fails, find_none}
 use Rattle.row_index.proofs.KeyLaws.{found}
@@ -28,11 +28,12 @@ id_paired id (Some text) rowid pairs own is = ap (λ t. paired t pairs) (sym ((b
 
 -- ---- the entry of an id
 
--- where all entries of the id have one rowid, and no entry of that rowid has the id, none has it
+-- a test that cannot hold fails
 false_from : (b : Bool) → (b ≡ true → ⊥) → b ≡ false
 false_from true never = absurd (never refl)
 false_from false never = refl
 
+-- an entry that has an id has the rowid that is paired with it
 rowid_is : (id : List ℕ) (pairs : List IdPair) (x : Entry) (rowid : ℤ) → IsPaired pairs x → paired id pairs ≡ Some rowid → has_id id x ≡ true → x.rowid ≡ rowid
 rowid_is id pairs x rowid own pair has = same_Some x.rowid rowid (sym (id_paired id x.id x.rowid pairs own has) ∙ pair)
 
@@ -61,10 +62,10 @@ id_left id entries pairs rowid entry indexed pair there other =
     ap (λ r. option_map (λ (e : Entry). e.rowid) r)
     (find_none (has_id id) entries
     (λ k d within.
-        false_from (has_id id (get_or entries k d))
-        (λ has.
-            let is = same_Some entry (get_or entries k d) (sym there ∙ entry_is id entries pairs rowid k d indexed pair within has) in
-            false≢true (sym other ∙ ap (has_id id) is ∙ has))))
+    false_from (has_id id (get_or entries k d))
+    (λ has.
+    let is = same_Some entry (get_or entries k d) (sym there ∙ entry_is id entries pairs rowid k d indexed pair within has) in
+    false≢true (sym other ∙ ap (has_id id) is ∙ has))))
 
 -- the first entry of the id has the rowid that all of the id have
 abbrev rowid_in : Option Entry → Option ℤ
@@ -103,9 +104,9 @@ all_others pairs x (y ∷ ys) own above all =
     differ (Some id) rowid z own less other =
         false_from (has_id id z)
         (λ has.
-            let same = same_Some rowid z.rowid (sym own ∙ id_paired id z.id z.rowid pairs other has) in
-            let equal : Less ≡ Equal = sym less ∙ same_rowid rowid z.rowid same in
-            absurd cc)
+        let same = same_Some rowid z.rowid (sym own ∙ id_paired id z.id z.rowid pairs other has) in
+        let equal : Less ≡ Equal = sym less ∙ same_rowid rowid z.rowid same in
+        absurd cc)
 
 pub own_ids : (entries : List Entry) (pairs : List IdPair) → RowidsRise entries → AllByRecursion (IsPaired pairs) entries → have_own_ids entries ≡ true
 unfolding IsStrictlySortedBy
@@ -196,10 +197,10 @@ entry_removed given rowid entries left old new indexed is own rise agree =
     let stays = all-filter (IsPaired old) (IsPaired old) (λ (e : Entry). not (int_eq e.rowid rowid)) entries (λ x pair passes. pair) indexed.paired_ids in
     let differ = all-filter (IsPaired old) (Differs given) (λ (e : Entry). not (int_eq e.rowid rowid)) entries
     (λ x pair passes other held is_given.
-        let one = MatchOption-at_some ⊤ (λ id. paired id old ≡ Some x.rowid) other held pair in
-        let two = MatchOption-at_some ⊤ (λ id. paired id old ≡ Some rowid) other is_given own in
-        let equal = same_rowid x.rowid rowid (same_Some x.rowid rowid (sym one ∙ two)) in
-        false≢true (sym (ap (λ o. not (is_eq o)) equal) ∙ passes))
+    let one = MatchOption-at_some ⊤ (λ id. paired id old ≡ Some x.rowid) other held pair in
+    let two = MatchOption-at_some ⊤ (λ id. paired id old ≡ Some rowid) other is_given own in
+    let equal = same_rowid x.rowid rowid (same_Some x.rowid rowid (sym one ∙ two)) in
+    false≢true (sym (ap (λ o. not (is_eq o)) equal) ∙ passes))
     indexed.paired_ids
     in rw is (record {
       rowids = IsStrictlySortedBy-filter (λ (a b : Entry). int_cmp a.rowid b.rowid) (λ (e : Entry). not (int_eq e.rowid rowid)) entries indexed.rowids;

@@ -1,8 +1,8 @@
 -- Lists of items by rising keys: what a search finds there, and that they go on rising.
-use Rattle.std.proofs.Common.{◌≡◌, ℕ, zero, suc, ◌+◌, ◌<◌, ◌≤◌, Bool, true, false, List, [], ◌∷◌, length, get_or, set, Less, Equal, Greater, refl, sym, ap, ◌∙◌, arith, Some, None, ⊎_elim}
+use Rattle.std.proofs.Common.{◌≡◌, ℕ, zero, suc, ◌+◌, ◌<◌, ◌≤◌, List, [], ◌∷◌, length, get_or, set, Less, Equal, Greater, sym, ap, ◌∙◌, arith, Some, None, ⊎_elim}
 use Rattle.std.specs.Cmp.{IsTotalOrder}
 use Rattle.std.specs.List.{AllByRecursion, insert, remove}
-use Rattle.std.specs.List.Sorted.{IsNonDecreasingBy, IsStrictlySortedBy, IsSortedBy}
+use Rattle.std.specs.List.Sorted.{IsNonDecreasingBy, IsStrictlySortedBy}
 use Rattle.std.specs.Ordering.{ordering_index, ordering_reverse, is_eq, is_lt}
 use Rattle.std.specs.declared.cmp.Ordering.{Ordering}
 use Rattle.std.proofs.lemmas.Bool.{cases_lt}
@@ -53,10 +53,10 @@ pub not_found : {A K : Type 0} (order : K → K → Ordering) (key : A → K) (k
 not_found order key k xs at gap =
     find_none (λ x. is_eq (order (key x) k)) xs
     (λ i d within.
-        ⊎_elim
-        (λ (lt : i < at). ap is_eq (gap.0 i d (omega arith) lt))
-        (λ (ge : at ≤ i). ap is_eq (gap.1 i d ge within))
-        (cases_lt i at))
+    ⊎_elim
+    (λ (lt : i < at). ap is_eq (gap.0 i d (omega arith) lt))
+    (λ (ge : at ≤ i). ap is_eq (gap.1 i d ge within))
+    (cases_lt i at))
 
 -- ---- changes
 

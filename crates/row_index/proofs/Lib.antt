@@ -1,6 +1,6 @@
-mod EntryLaws
-mod FindLaws
-mod IdLaws
-mod KeyLaws
+pub mod EntryLaws
+pub mod FindLaws
+pub mod IdLaws
+pub mod KeyLaws
 mod PairLaws
-mod SearchLaws
+pub mod SearchLaws

@@ -1,6 +1,6 @@
 -- Ids paired with rowids: what one pair more, less or changed leaves of them.
 use Rattle.std.proofs.Common.{◌≡◌, ℕ, ◌<◌, ◌≤◌, Bool, true, false, if◌then◌else◌, List, length, get_or, set, Equal, refl, sym, ap, ◌∙◌, arith, Some, None, Ok, Err, Result, is_ok, get_or-set_same, length-set}
-use Rattle.std.specs.Prelude.{bytes_eq, OnOk, [], pos}
+use Rattle.std.specs.Prelude.{OnOk, [], pos}
 use Rattle.std.specs.Cmp.Lexicographic.{slice_cmp, texts_ties}
 use Rattle.std.specs.List.{insert, remove, HoldsAt}
 use Rattle.std.specs.Option.{option_map}

@@ -30,6 +30,7 @@ pub(crate) fn place_after(entries: &Leaves<Entry>, after: &Option<i64>) -> usize
     let Some(rowid) = after else {
         return 0;
     };
+    // A place before the end has a next one that fits.
     let _count = entries.len();
     match search(entries, rowid) {
         Ok(at) => at + 1,

@@ -1,6 +1,6 @@
 -- Tables whose rows have places: a slot of a chunk each.
-use Rattle.std.specs.Prelude.{◌≡◌, ℕ, ◌^◌, ℤ, Bool, true, cond, ◌&&◌, ◌==◌, nat_lt, List, [], ◌∷◌, map, Option, Some, None, slice_index_or, find, ⊤}
-use Rattle.std.specs.List.{list_all, AllByRecursion}
+use Rattle.std.specs.Prelude.{◌≡◌, ℕ, ◌^◌, ℤ, Bool, true, cond, ◌&&◌, ◌==◌, nat_lt, List, [], ◌∷◌, map, Option, Some, None, slice_index_or, find}
+use Rattle.std.specs.List.{list_all, AllPairs}
 use Rattle.std.specs.Ordering.{int_eq}
 use Rattle.vec_base.specs.Words.{is_name}
 use Rattle.vec_base.specs.declared.value.Value.{Value}
@@ -74,11 +74,6 @@ AreApart p q = p.chunk ≡ q.chunk → p.slot ≡ q.slot → ⊥
 -- two rows of one chunk have the same partition values
 abbrev pub AreAlike : List Column → PlacedRow → PlacedRow → Type 0
 AreAlike columns p q = p.chunk ≡ q.chunk → partition_of columns p.row.values ≡ partition_of columns q.row.values
-
--- of each two rows of the list it holds, the earlier one first
-abbrev pub AllPairs : (PlacedRow → PlacedRow → Type 0) → List PlacedRow → Type 0
-AllPairs P [] = ⊤
-AllPairs P (p ∷ ps) = AllByRecursion (P p) ps × AllPairs P ps
 
 -- a valid table with a name in lower case, whose rows have sound places
 pub record IsPlaced (table : PlacedTable) : Type 0 where

@@ -212,6 +212,7 @@ chunks-removed size xs at are lt = record {
 pub place_map : (size : ℕ) (xs : List Chunk) → AreChunks size xs → IsPlaceMap (record { size = size; chunks = xs })
 place_map size xs are = record {
   size = are.fits;
+  rise = are.rise;
   positive = ap (λ o. is_some (partition_in o)) (with-none xs 0 (λ k d lt e. (let h = (All-get_or (IsChunk size) xs k d lt are.each).positive in absurd (omega (arith, h, e)))));
   within = λ c s used. inner c s (chunk_with xs c) refl used;
   alike = λ c s p is. alike p (chunk_with xs c) s is;

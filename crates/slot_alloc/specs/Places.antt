@@ -1,5 +1,6 @@
 -- Which places of a table are used, and with which partition values. A place is the number of a chunk and a slot of the chunk.
 use Rattle.std.specs.Prelude.{◌≡◌, ℕ, ◌<◌, ◌≤◌, ◌%◌, Bool, true, false, ◌==◌, if◌then◌else◌, is_some, List, [], ◌∷◌, slice_index_or, Option, Some, None, MatchOption}
+use Rattle.std.specs.List.{AllPairs}
 use Rattle.vec_base.specs.declared.limits.TheConstants.{MOST_CHUNK_SIZE}
 use Rattle.vec_base.specs.declared.value.Value.{Value}
 use Rattle.slot_alloc.specs.declared.chunk.Chunk.{Chunk}
@@ -48,10 +49,11 @@ IsNextChunk places after next =
     ((d : ℕ) → after < d → has_chunk places d ≡ false)
     (λ c. (after < c) × (has_chunk places c ≡ true) × ((d : ℕ) → after < d → d < c → has_chunk places d ≡ false))
 
--- What is so of every table: numbers of chunks are positive, each chunk has a used slot, and used slots are within the size and have the values
+-- What is so of every table: numbers of chunks rise and are positive, each chunk has a used slot, and used slots are within the size and have the values
 -- of their chunk.
 pub record IsPlaceMap (places : PlaceMap) : Type 0 where
   pub size : IsChunkSize places.size
+  pub rise : AllPairs (λ x y. x.number < y.number) places.chunks
   pub positive : has_chunk places 0 ≡ false
   pub within : (c s : ℕ) → is_used places c s ≡ true → s < places.size
   pub alike : (c s : ℕ) (partition : List Value) → partition_at places c s ≡ Some partition → partition_of_chunk places c ≡ Some partition

@@ -1,7 +1,7 @@
 use Rattle.std.proofs.Common.{int_cmp, arith}
 use Rattle.std.proofs.lemmas.Cmp.{int_cmp_total}
 use Rattle.row_index.specs.declared.entry.Entry.{Entry}
-use Rattle.row_index.proofs.EntryLaws.{after_entry, after_gap}
+use Rattle.row_index.proofs.EntryLaws.{after_entry}
 use Rattle.row_index.proofs.KeyLaws.{searchable}
 use Rattle.row_index.proofs.entries.place_after.Goals as goal
 

@@ -1,10 +1,10 @@
-use Rattle.std.proofs.Common.{◌≡◌, Some, sym, ap, ◌∙◌}
+use Rattle.std.proofs.Common.{Some, sym, ap, ◌∙◌}
 use Rattle.std.specs.Cmp.Lexicographic.{slice_cmp}
 use Rattle.std.specs.Ordering.{nat_cmp}
 use Rattle.std.proofs.lemmas.Cmp.{nat_list_cmp_total}
 use Rattle.row_index.specs.declared.entry.IdPair.{IdPair}
 use Rattle.row_index.proofs.KeyLaws.{searchable}
-use Rattle.row_index.proofs.PairLaws.{rise-remove, others-remove, same_id}
+use Rattle.row_index.proofs.PairLaws.{rise-remove, others-remove}
 use Rattle.row_index.proofs.pairs.remove.Goals as goal
 
 pub search-requires : goal.search-requires

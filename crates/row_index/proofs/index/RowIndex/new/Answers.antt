@@ -1,6 +1,3 @@
-use Rattle.std.specs.List.Sorted.{IsStrictlySortedBy}
-use Rattle.row_index.specs.declared.entry.Entry.{Entry}
-use Rattle.row_index.specs.declared.entry.IdPair.{IdPair}
 use Rattle.row_index.proofs.IdLaws.{none_indexed}
 use Rattle.row_index.proofs.index.RowIndex.new.Goals as goal
 

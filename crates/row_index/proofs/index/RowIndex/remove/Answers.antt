@@ -3,7 +3,7 @@ use Rattle.std.proofs.lemmas.Cmp.{int_cmp_total}
 use Rattle.std.proofs.lemmas.Int.{to_z-of_z}
 use Rattle.row_index.specs.declared.entry.Entry.{Entry}
 use Rattle.row_index.specs.Entries.{has_rowid, without}
-use Rattle.row_index.proofs.EntryLaws.{has_rowid_at, has_rowid_nowhere, without-remove, without_nowhere}
+use Rattle.row_index.proofs.EntryLaws.{has_rowid_nowhere, without-remove, without_nowhere}
 use Rattle.row_index.proofs.IdLaws.{entry_removed, held_paired}
 use Rattle.row_index.proofs.KeyLaws.{searchable}
 use Rattle.row_index.proofs.index.RowIndex.remove.Goals as goal

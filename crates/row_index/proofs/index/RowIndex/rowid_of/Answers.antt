@@ -1,4 +1,4 @@
-use Rattle.std.proofs.Common.{◌≡◌, ℤ, Some, None, sym, ap, ◌∙◌, rules, w64, SFits}
+use Rattle.std.proofs.Common.{ℤ, Some, sym, ap, ◌∙◌, rules, w64, SFits}
 use Rattle.std.proofs.lemmas.Int.{to_z-of_z}
 use Rattle.row_index.specs.Entries.{entry_of, rowid_of}
 use Rattle.row_index.proofs.IdLaws.{id_unpaired, id_gone, id_left, id_found}
