@@ -1,9 +1,8 @@
 -- Vectors in blocks: what a write into one block leaves of each.
-use Rattle.std.proofs.Common.{◌≡◌, ◌≢◌, ◌≤◌, ◌<◌, ◌+◌, ◌-◌, ◌*◌, ◌/◌, ◌%◌, ℕ, suc, zero, List, [], ◌∷◌, ◌++◌, map, length, take, drop, get_or, set, replicate, ⊎_elim, refl, sym, ap, ap₂, ◌∙◌, slice_get, arith, length-set, length-append, length-take, length-drop}
-use Rattle.std.specs.List.{All, range_with_len}
+use Rattle.std.proofs.Common.{◌≡◌, ◌≢◌, ◌≤◌, ◌<◌, ◌+◌, ◌-◌, ◌*◌, ◌/◌, ◌%◌, ℕ, suc, zero, List, [], ◌∷◌, length, take, drop, get_or, set, ⊎_elim, refl, sym, ap, ap₂, ◌∙◌, slice_get, arith, length-set, length-append, length-take, length-drop}
 use Rattle.std.proofs.lemmas.Bool.{cases_eq, cases_lt}
-use Rattle.std.proofs.lemmas.List.{same_lists, length-replicate, get_or_read, drop-take, get_or-set_same, get_or-set_other}
-use Rattle.std.proofs.lemmas.List.Elements.{All-set, All-replicate}
+use Rattle.std.proofs.lemmas.List.{same_lists, get_or_read, drop-take, get_or-set_same, get_or-set_other}
+use Rattle.std.proofs.lemmas.List.Elements.{All-set}
 use Rattle.std.proofs.lemmas.List.FromFn.{length-map-range_with_len, get_or-map-range_with_len}
 use Rattle.std.proofs.lemmas.Option.{get_or_from_slice_get, slice_get_within, slice_get_read}
 use Rattle.std.proofs.lemmas.Slice.{between-put_mid, take-put_mid_below, drop-put_mid}
@@ -132,9 +131,6 @@ blocks_edited w s v blocks same are lt =
     rw (edited-is (overwritten (s % 8 * w) v) blocks (s / 8) [] (omega (arith, lt)))
     (All-set (λ block. length block ≡ 8 * w) blocks (s / 8) (overwritten (s % 8 * w) v b)
     (length_overwritten (s % 8 * w) v b (omega (arith, within_block w s b whole, same)) ∙ whole) are)
-
-pub zero_blocks_are : (w count : ℕ) → AreBlocks w (replicate count (replicate (8 * w) 0))
-zero_blocks_are w count = All-replicate (λ block. length block ≡ 8 * w) count (replicate (8 * w) 0) (length-replicate (8 * w) 0)
 
 -- what is known where a slot's block and place are told by equations
 start_is : (w s n start : ℕ) → n ≡ w → start ≡ s % 8 * n → start ≡ s % 8 * w

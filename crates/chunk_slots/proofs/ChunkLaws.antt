@@ -1,14 +1,14 @@
 -- Chunks by their columns and rows: what is known of a slot, and what a change of the parts makes of the chunk.
-use Rattle.std.proofs.Common.{◌≡◌, ◌<◌, ◌+◌, ℕ, zero, suc, ℤ, true, List, [], ◌∷◌, map, length, get_or, set, replicate, Option, Some, None, Ok, Err, refl, sym, ap, ap₂, ◌∙◌, subst, arith, true≢false}
+use Rattle.std.proofs.Common.{◌≡◌, ◌<◌, ℕ, zero, suc, ℤ, true, List, [], ◌∷◌, length, get_or, set, replicate, Option, Some, None, Ok, Err, refl, sym, ap, ap₂, ◌∙◌, subst, arith, true≢false}
 use Rattle.std.specs.List.{All}
 use Rattle.std.specs.Option.{is_some}
 use Rattle.std.specs.Bool.{if◌then◌else◌}
 use Rattle.std.specs.Result.{is_ok, IsErr}
 use Rattle.std.specs.declared.result.Result.{Result}
 use Rattle.std.proofs.lemmas.List.{set-get_or, get_or-map, length-map}
-use Rattle.chunk_slots.specs.Slots.{UsedSlot, Slots, used_by, slot_at, vectors_in, vector_at, all_free, with_slot, with_vector}
+use Rattle.chunk_slots.specs.Slots.{Slots, used_by, slot_at, vectors_in, vector_at, all_free, with_slot, with_vector}
 use Rattle.chunk_slots.specs.inner.Blocks.{VectorColumn, column_with}
-use Rattle.chunk_slots.specs.inner.Columns.{widths_of, sizes_of, vectors_at, HaveSlot, HaveSize, slot_in, slots_from, chunk_of, KeepsOthers}
+use Rattle.chunk_slots.specs.inner.Columns.{widths_of, vectors_at, HaveSlot, HaveSize, slot_in, chunk_of, KeepsOthers}
 use Rattle.chunk_slots.proofs.ColumnLaws.{keeps-set, row_set, slot_there}
 use Rattle.chunk_slots.proofs.SlotLaws.{length_slots, get_slot, some_slot, slots_set, all_free_slots, none_there}
 
@@ -94,10 +94,6 @@ vector_seen slot i columns d rows chunk lt seen used =
 
 pub column_within : (columns : List VectorColumn) (rows : List (Option ℤ)) (chunk : Slots) (i : ℕ) → chunk_of columns rows ≡ chunk → i < length chunk.widths → i < length columns
 column_within columns rows chunk i seen lt = omega (arith, lt, ap (λ c. length c.widths) seen, length-map columns (λ column. column.width))
-
-pub width_seen : (columns : List VectorColumn) (rows : List (Option ℤ)) (chunk : Slots) (i : ℕ) (d : VectorColumn) → chunk_of columns rows ≡ chunk → i < length chunk.widths → (get_or columns i d).width ≡ get_or chunk.widths i 0
-width_seen columns rows chunk i d seen lt =
-    sym (get_or-map (λ column. column.width) columns i d 0 (column_within columns rows chunk i seen lt)) ∙ ap (λ c. get_or c.widths i 0) seen
 
 -- a column of a chunk has a vector for each used slot
 pub column_there : (slot n i : ℕ) (columns : List VectorColumn) (c : VectorColumn) (rows : List (Option ℤ)) (chunk : Slots) → HaveSize (length rows) columns → n ≡ i → i < length chunk.widths → chunk_of columns rows ≡ chunk →

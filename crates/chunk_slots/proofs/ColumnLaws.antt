@@ -1,12 +1,12 @@
 -- The vectors of one slot changed in one column after another.
-use Rattle.std.proofs.Common.{◌≡◌, ◌<◌, ◌+◌, ◌++◌, ◌∷◌, ℕ, List, [], map, take, replicate, arith, length, get_or, set, refl, sym, ap, ◌∙◌, subst, length-set}
+use Rattle.std.proofs.Common.{◌≡◌, ◌<◌, ◌+◌, ◌++◌, ◌∷◌, ℕ, List, [], take, replicate, arith, length, get_or, set, refl, sym, ap, ◌∙◌, subst, length-set}
 use Rattle.std.specs.List.{All}
 use Rattle.std.proofs.Math.Seq.{map-set_same}
 use Rattle.std.proofs.lemmas.List.{length-map, take_more, map-set, get_or-map, get_or-set_same, get_or-set_other}
 use Rattle.std.proofs.lemmas.Grind.{take-set_at}
 use Rattle.chunk_slots.specs.Slots.{zero_vectors}
 use Rattle.chunk_slots.specs.inner.Blocks.{VectorColumn, column_with}
-use Rattle.chunk_slots.specs.inner.Columns.{widths_of, sizes_of, vectors_at, HaveSlot, KeepsOthers}
+use Rattle.chunk_slots.specs.inner.Columns.{widths_of, vectors_at, HaveSlot, KeepsOthers}
 
 pub keeps-itself : (slot : ℕ) (columns : List VectorColumn) → KeepsOthers slot columns columns
 keeps-itself slot columns = record { widths = refl; sizes = refl; others = λ other apart. refl }

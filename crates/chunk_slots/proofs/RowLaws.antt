@@ -1,8 +1,8 @@
 -- Rowids beside the truth values of their slots: a change of one slot, and how many are used.
-use Rattle.std.proofs.Common.{◌≡◌, ◌≤◌, ◌<◌, ◌+◌, ℕ, ℤ, suc, zero, Bool, true, false, cond, List, [], ◌∷◌, map, length, get_or, set, replicate, Option, Some, None, refl, sym, ap, ap₂, ◌∙◌, arith}
+use Rattle.std.proofs.Common.{◌≡◌, ◌<◌, ◌+◌, ℕ, ℤ, suc, zero, Bool, true, false, cond, List, [], ◌∷◌, map, length, get_or, set, replicate, Some, None, refl, sym, ap, ap₂, ◌∙◌, arith}
 use Rattle.std.specs.List.{count_by}
 use Rattle.std.specs.Option.{is_some}
-use Rattle.std.proofs.lemmas.List.Sums.{sum_by-set, sum_by-cons, get_or-le-sum_by}
+use Rattle.std.proofs.lemmas.List.Sums.{sum_by-set}
 use Rattle.chunk_slots.specs.inner.Rows.{row_of, rows_of}
 
 some_row : (bit : Bool) (rowid : ℤ) → is_some (row_of bit rowid) ≡ bit
@@ -42,10 +42,6 @@ pub all_free_rows : (count : ℕ) (rowids : List ℤ) → length rowids ≡ coun
 all_free_rows zero rowids same = refl
 all_free_rows (suc count) [] same = absurd (omega (arith, same))
 all_free_rows (suc count) (rowid ∷ rowids) same = ap (λ rows. None ∷ rows) (all_free_rows count rowids (omega (arith, same)))
-
-pub none_used : (count : ℕ) → count_by (λ bit. bit) (replicate count false) ≡ 0
-none_used zero = refl
-none_used (suc count) = none_used count
 
 -- the truth value of a slot, by whether its row is there
 pub is_clear : (bits : List Bool) (rowids : List ℤ) (i : ℕ) → length rowids ≡ length bits → get_or (rows_of bits rowids) i None ≡ None → get_or bits i false ≡ false

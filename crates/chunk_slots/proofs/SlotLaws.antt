@@ -1,9 +1,8 @@
 -- Slots by their rowids and columns: a change of one slot, and which are used.
-use Rattle.std.proofs.Common.{◌≡◌, ◌≢◌, ◌<◌, ◌+◌, ℕ, ℤ, suc, zero, Bool, not, cond, List, [], ◌∷◌, map, length, get_or, set, replicate, Option, Some, None, refl, sym, ap, ap₂, ◌∙◌, arith}
+use Rattle.std.proofs.Common.{◌≡◌, ◌≢◌, ◌<◌, ◌+◌, ℕ, ℤ, suc, zero, not, cond, List, [], ◌∷◌, map, length, get_or, set, replicate, Option, Some, None, refl, sym, ap, ap₂, ◌∙◌, arith}
 use Rattle.std.specs.List.{count_by, position_from}
 use Rattle.std.specs.Option.{is_some, is_none}
 use Rattle.std.proofs.lemmas.List.Sums.{sum_by-cons}
-use Rattle.chunk_slots.specs.Slots.{UsedSlot}
 use Rattle.chunk_slots.specs.inner.Blocks.{VectorColumn}
 use Rattle.chunk_slots.specs.inner.Columns.{vectors_at, slot_in, slots_from}
 

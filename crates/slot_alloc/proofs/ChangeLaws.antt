@@ -262,6 +262,10 @@ used_bit o x s e = ap (λ p. is_some (partition_in_slot p s)) e ∙ by (get_or x
 pub used_is : (xs : List Chunk) (c s : ℕ) (x : Chunk) → chunk_with xs c ≡ Some x → is_some (partition_in_slot (chunk_with xs c) s) ≡ get_or x.used s false
 used_is xs c s x e = used_bit (chunk_with xs c) x s e
 
+-- what a bit of a chunk says of its slot
+pub at_slot : (xs : List Chunk) (c s : ℕ) (x : Chunk) (b : Bool) → chunk_with xs c ≡ Some x → get_or x.used s false ≡ b → partition_in_slot (chunk_with xs c) s ≡ cond b (Some x.partition) None
+at_slot xs c s x b e is = ap (λ o. partition_in_slot o s) e ∙ ap (λ v. cond v (Some x.partition) None) is
+
 -- the least free slot of a chunk of these values
 pub free_found : (size : ℕ) (xs : List Chunk) (c : ℕ) (p : List Value) (x : Chunk) (r : Option ℕ) → chunk_with xs c ≡ Some x → x.partition ≡ p → length x.used ≡ size →
     MatchOption r ((t : ℕ) → t < length x.used → get_or x.used t false ≡ true) (λ free. (free < length x.used) × (get_or x.used free false ≡ false) × ((t : ℕ) → t < free → get_or x.used t false ≡ true)) →

@@ -79,6 +79,13 @@ impl Copied for Slots {
 }
 
 impl Slots {
+    /// Whether the slot is there and used.
+    pub(crate) fn is_used(&self, slot: u16) -> bool
+        ensures { result ≡ slice_index_or self.now slot false }
+    {
+        usize::from(slot) < self.used.len() && self.used.get(slot)
+    }
+
     /// The least slot that is not used.
     pub(crate) fn first_free(&self) -> Option<u16>
         ensures { MatchOption result

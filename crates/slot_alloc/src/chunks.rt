@@ -2,7 +2,7 @@
 ghost use Rattle.std.specs.Prelude.{◌≡◌, ℕ, ◌+◌, ◌-◌, ◌<◌, ◌≤◌, ◌^◌, Bool, true, false, ◌&&◌, ◌==◌, nat_lt, is_some, List as Seq, [], length, slice_index_or, option_copied, Some, None, IsTrue, ◌↔◌, MatchOption, IfOk, IfSome, OnOk, OnErr};
 ghost use Rattle.vec_base.specs.declared.value.Value.{Value};
 ghost use Rattle.slot_alloc.specs.declared.chunk.Chunk.{Chunk};
-ghost use Rattle.slot_alloc.specs.Places.{PlaceMap, IsChunkSize, IsFull, IsNextChunk, IsPlaceMap, chunk_with, partition_of_chunk, has_chunk, is_used};
+ghost use Rattle.slot_alloc.specs.Places.{PlaceMap, IsChunkSize, IsFull, IsNextChunk, IsPlaceMap, chunk_with, partition_at, partition_of_chunk, has_chunk, is_used};
 ghost use Rattle.slot_alloc.specs.Changes.{UsesAlso, UsesNoMore};
 ghost use Rattle.slot_alloc.specs.inner.Kept.{NumbersRise};
 ghost use Rattle.slot_alloc.specs.inner.Searches.{IsSplitPlace};
@@ -175,6 +175,19 @@ impl Chunks {
     {
         let at = find(&self.chunks, number)?;
         Some(self.chunks.get(at).partition.get().values())
+    }
+
+    /// The partition values of a used place.
+    pub(crate) fn partition_at(&self, number: u32, slot: u16) -> Option<&List<Value>>
+        ensures { option_copied result ≡ partition_at self.now number slot }
+    {
+        let at = find(&self.chunks, number)?;
+        let chunk = self.chunks.get(at);
+        if chunk.used.get().is_used(slot) {
+            Some(chunk.partition.get().values())
+        } else {
+            None
+        }
     }
 
     /// A holder of the partition values of a chunk that is there.

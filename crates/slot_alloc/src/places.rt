@@ -103,6 +103,13 @@ impl Places {
         self.chunks.partition(chunk)
     }
 
+    /// The partition values of a place, where it is used.
+    pub fn partition_at(&self, chunk: u32, slot: u16) -> Option<&List<Value>>
+        ensures { option_copied result ≡ partition_at self.now chunk slot }
+    {
+        self.chunks.partition_at(chunk, slot)
+    }
+
     /// Takes the place that a new row with these partition values has.
     pub fn take(&mut self, alloc: Global, partition: &List<Value>) -> Result<Place, Memory>
         ensures kept { OnErr result (self.new ≡ self.old) }

@@ -1,4 +1,4 @@
-use Rattle.std.proofs.Common.{◌≡◌, ◌<◌, ◌∷◌, [], ◌++◌, length, get_or, ap, sym, ◌∙◌, arith}
+use Rattle.std.proofs.Common.{◌<◌, ◌∷◌, [], ◌++◌, length, get_or, ap, sym, ◌∙◌, arith}
 use Rattle.chunk_slots.specs.inner.Columns.{widths_of}
 use Rattle.chunk_slots.proofs.ColumnLaws.{kept_more, there_kept, row_more, width_kept, count_kept, zeros, zeros_more}
 use Rattle.chunk_slots.proofs.chunk.clear_row.Goals as goal

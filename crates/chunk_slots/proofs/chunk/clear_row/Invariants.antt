@@ -1,4 +1,4 @@
-use Rattle.std.proofs.Common.{◌≡◌, take, ◌∷◌, []}
+use Rattle.std.proofs.Common.{◌≡◌, take}
 use Rattle.chunk_slots.specs.Slots.{zero_vectors}
 use Rattle.chunk_slots.specs.inner.Columns.{widths_of, vectors_at, KeepsOthers}
 use Rattle.chunk_slots.proofs.chunk.clear_row.Given as goal

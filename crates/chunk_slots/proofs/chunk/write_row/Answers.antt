@@ -1,4 +1,4 @@
-use Rattle.std.proofs.Common.{◌≡◌, ◌<◌, ◌+◌, ◌∷◌, [], ◌++◌, List, ℕ, Some, None, length, map, take, get_or, set, subst, ap, ap₂, sym, ◌∙◌, arith, rules, length-append}
+use Rattle.std.proofs.Common.{◌≡◌, ◌<◌, ◌∷◌, [], ◌++◌, List, ℕ, Some, None, length, map, take, get_or, set, subst, ap, ap₂, sym, ◌∙◌, arith, rules, length-append}
 use Rattle.std.proofs.lemmas.List.{length-map}
 use Rattle.vec_base.specs.declared.value.Value.{Value}
 use Rattle.chunk_slots.specs.Slots.{vector_of, vectors_of}

@@ -1,5 +1,4 @@
-use Rattle.std.proofs.Common.{◌≡◌, ◌<◌, length, get_or, set, ap, ap₂, sym, ◌∙◌, subst}
-use Rattle.chunk_slots.specs.inner.Columns.{chunk_of, HaveSize}
+use Rattle.std.proofs.Common.{◌<◌, length, ap, ◌∙◌, subst}
 use Rattle.chunk_slots.specs.Slots.{slot_at, with_slot, with_vector}
 use Rattle.chunk_slots.specs.inner.Blocks.{column_with}
 use Rattle.chunk_slots.proofs.ColumnLaws.{keeps-itself, kept_more}

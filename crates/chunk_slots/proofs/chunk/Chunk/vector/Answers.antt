@@ -1,5 +1,4 @@
-use Rattle.std.proofs.Common.{◌≡◌, ◌<◌, [], length, get_or, ap, sym, ◌∙◌, subst}
-use Rattle.chunk_slots.specs.inner.Blocks.{VectorColumn}
+use Rattle.std.proofs.Common.{[], get_or, ap, ◌∙◌}
 use Rattle.chunk_slots.proofs.ChunkLaws.{column_there, column_within, vector_seen}
 use Rattle.chunk_slots.proofs.chunk.Chunk.vector.Goals as goal
 

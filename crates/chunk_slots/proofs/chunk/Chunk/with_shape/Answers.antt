@@ -1,5 +1,3 @@
-use Rattle.std.proofs.Common.{sym, ap}
-use Rattle.std.proofs.lemmas.List.{length-replicate}
 use Rattle.chunk_slots.proofs.ChunkLaws.{chunk_free}
 use Rattle.chunk_slots.proofs.chunk.Chunk.with_shape.Goals as goal
 

@@ -1,4 +1,4 @@
-use Rattle.std.proofs.Common.{◌≡◌, length, replicate, ap, sym, ◌∙◌}
+use Rattle.std.proofs.Common.{replicate, ap, ◌∙◌}
 use Rattle.std.proofs.lemmas.List.{length-replicate}
 use Rattle.chunk_slots.specs.inner.Blocks.{column_with}
 use Rattle.chunk_slots.proofs.BlockLaws.{block_there, takes_there, edited_column, edited_blocks}

@@ -1,4 +1,4 @@
-use Rattle.std.proofs.Common.{◌≡◌, [], ap, sym, ◌∙◌, length, take, drop, get_or}
+use Rattle.std.proofs.Common.{[], ap, sym, ◌∙◌, length, take, drop, get_or}
 use Rattle.chunk_slots.proofs.BlockLaws.{block_there, slot_within, part_there, vector_part, vector_width, get_vector}
 use Rattle.chunk_slots.proofs.column.Column.get.Goals as goal
 

@@ -1,4 +1,4 @@
-use Rattle.std.proofs.Common.{◌≡◌, length, ap, sym, ◌∙◌}
+use Rattle.std.proofs.Common.{length, ap, sym, ◌∙◌}
 use Rattle.chunk_slots.proofs.BlockLaws.{block_there, takes_there, edited_column, edited_blocks}
 use Rattle.chunk_slots.proofs.column.Column.set.Goals as goal
 

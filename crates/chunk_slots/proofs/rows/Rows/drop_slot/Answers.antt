@@ -1,4 +1,4 @@
-use Rattle.std.proofs.Common.{◌≡◌, ◌<◌, ◌+◌, ◌-◌, None, false, get_or, length, ap, sym, ◌∙◌, set, arith, length-set}
+use Rattle.std.proofs.Common.{None, false, get_or, length, ap, ◌∙◌, set, arith, length-set}
 use Rattle.std.specs.List.{count_by}
 use Rattle.std.specs.Option.{is_some}
 use Rattle.chunk_slots.specs.inner.Rows.{rows_of}

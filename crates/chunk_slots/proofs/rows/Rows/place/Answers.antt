@@ -1,4 +1,4 @@
-use Rattle.std.proofs.Common.{◌≡◌, ◌<◌, ◌+◌, Some, None, true, get_or, set, length, ap, ap₂, sym, ◌∙◌, arith, length-set}
+use Rattle.std.proofs.Common.{◌<◌, ◌+◌, Some, None, true, get_or, set, length, ap, ap₂, sym, ◌∙◌, arith, length-set}
 use Rattle.std.specs.List.{count_by}
 use Rattle.std.proofs.lemmas.Int.{to_z-of_z}
 use Rattle.std.specs.Int.{w64}
