@@ -1,0 +1,2 @@
+//! One table: its name, its schema, the greatest rowid that it ever held, and its rows at their places.
+#![tactic(auto)]
