@@ -23,7 +23,7 @@ use Rattle.chunk_slots.specs.Slots.{vector_of, vectors_of}
 use Rattle.table_version.proofs.ByteLaws.{values-small, IsSmall}
 use Rattle.table_version.proofs.KeptLaws.{id-all, id_in-none, partition-all}
 use Rattle.table_version.proofs.WeavingLaws.{bits_shape, fewer_keys, int8_shape, no_id_behind, not_null, number_shape, typed, widths-fit}
-use Rattle.table_version.specs.inner.Weaving.{id_in, text_in, widths_of}
+use Rattle.table_version.specs.Kept.{id_in, text_in, widths_of}
 
 -- ---- vectors
 

@@ -21,7 +21,8 @@ use Rattle.row_model.proofs.BoolLaws.{or_first, or_second}
 use Rattle.row_model.proofs.SchemaLaws.{faultless}
 use Rattle.shadow_records.specs.PlacedTables.{partition_of}
 use Rattle.chunk_slots.specs.Slots.{vector_of, vectors_of}
-use Rattle.table_version.specs.inner.Weaving.{text_in, id_in, is_partition_value, next_value, past, woven_value, woven}
+use Rattle.table_version.specs.inner.Weaving.{next_value, past, woven_value, woven}
+use Rattle.table_version.specs.Kept.{text_in, id_in, is_partition_value}
 
 -- ---- what holds of all values
 

@@ -3,6 +3,8 @@ pub mod GrowthLaws
 pub mod KeptBytes
 pub mod KeptLaws
 pub mod PlacedLaws
+pub mod RoomLaws
 pub mod SchemaShape
+pub mod StoredLaws
 pub mod ValidityLaws
 pub mod WeavingLaws

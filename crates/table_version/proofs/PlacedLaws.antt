@@ -16,7 +16,7 @@ use Rattle.row_model.proofs.ValidityRows.{all_filter}
 use Rattle.shadow_records.specs.PlacedTables.{PlacedRow, PlacedTable, plain_rows, plain, is_at, row_at, first_in, partition_of, is_place, AreApart, AreAlike, IsPlaced}
 use Rattle.table_version.proofs.ByteLaws.{without}
 use Rattle.table_version.proofs.ValidityLaws.{valid-with_row, valid-without}
-use Rattle.table_version.specs.inner.PlacedRows.{with_placed, without_placed, table_with, table_without}
+use Rattle.table_version.specs.PlacedRows.{with_placed, without_placed, table_with, table_without}
 
 -- ---- the rows without their places
 

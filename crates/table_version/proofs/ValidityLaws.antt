@@ -24,7 +24,7 @@ use Rattle.row_model.proofs.ValidityRows.{same_id-sym, valid_filter}
 use Rattle.row_model.proofs.ValidityValues.{each_with_row, larger_last}
 use Rattle.table_version.proofs.ByteLaws.{without, sum-without}
 use Rattle.table_version.proofs.WeavingLaws.{same_id-texts}
-use Rattle.table_version.specs.inner.Weaving.{id_in, is_one_id}
+use Rattle.table_version.specs.Kept.{id_in, is_one_id}
 
 -- ---- what all rows pass with one more
 

@@ -23,7 +23,8 @@ use Rattle.row_model.proofs.SchemaLaws.{faultless}
 use Rattle.shadow_records.specs.PlacedTables.{partition_of}
 use Rattle.chunk_slots.specs.Slots.{vector_of, vectors_of}
 use Rattle.vec_base.specs.declared.limits.TheConstants.{MOST_DIMENSIONS, MOST_VALUE_BYTES, MOST_VECTOR_COLUMNS}
-use Rattle.table_version.specs.inner.Weaving.{id_text, text_in, id_in, is_one_id, is_partition_value, vector_width, widths_of, past, woven_value, woven}
+use Rattle.table_version.specs.inner.Weaving.{id_text, past, woven_value, woven}
+use Rattle.table_version.specs.Kept.{text_in, id_in, is_one_id, is_partition_value, vector_width, widths_of}
 
 -- ---- what a value of a type is
 

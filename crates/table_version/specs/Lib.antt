@@ -1,2 +1,8 @@
--- inner: how a row's values are put together from what is kept of it, and placed rows with one more or less.
+-- Inserting: what a new row makes of a table, and what refuses it. Kept: what is kept of a row's values. PlacedRows: rows with one more or less.
+-- Versions: the state of a table, and where it differs from the one that it was shared from.
+-- inner: how stored rows give the rows of a table.
+pub mod Inserting
+pub mod Kept
+pub mod PlacedRows
+pub mod Versions
 pub mod inner

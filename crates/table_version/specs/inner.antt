@@ -1,2 +1,2 @@
-pub mod PlacedRows
+pub mod StoredTables
 pub mod Weaving
