@@ -1,5 +1,7 @@
 pub mod ByteLaws
+pub mod GivenLaws
 pub mod GrowthLaws
+pub mod InsertLaws
 pub mod KeptBytes
 pub mod KeptLaws
 pub mod PlacedLaws

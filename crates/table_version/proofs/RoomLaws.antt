@@ -3,7 +3,7 @@ use Rattle.std.proofs.Common.{◌≡◌, ℕ, zero, suc, ◌+◌, ◌-◌, ◌<�
 use Rattle.std.specs.Prelude.{◌==◌, ◌&&◌, not, find, filter, nat_lt, is_some, if◌then◌else◌}
 use Rattle.std.specs.List.{list_all, AllByRecursion}
 use Rattle.std.specs.Option.{option_map}
-use Rattle.std.proofs.lemmas.Bool.{and_parts, and_from, eqb-true, eq-eqb, ltb-true, leb-true}
+use Rattle.std.proofs.lemmas.Bool.{and_parts, and_from, eqb-true, eq-eqb, ltb-true, lt-ltb}
 use Rattle.vec_base.specs.declared.limits.TheConstants.{MOST_ROWS}
 use Rattle.vec_base.specs.declared.value.Value.{Value}
 use Rattle.row_model.specs.declared.row.Row.{Row}
@@ -87,3 +87,65 @@ first_of size c (p ∷ ps) all there = by_test (λ h. first_of size c ps (and_pa
       let high = ltb-true p.chunk (2 ^ 32) (and_parts (nat_lt p.chunk (2 ^ 32)) (nat_lt p.slot size) parts.1).0 in
       subst (λ (d : ℕ). (0 < d) × (d < 2 ^ 32)) same (low, high)
   by_test rest false e h = rest h
+
+-- ---- the place of a new row
+
+-- a table with room, and the place that a row with these partition values takes in it
+pub record HasPlace (table : PlacedTable) (places : PlaceMap) (partition : List Value) (place : Place) : Type 0 where
+  pub sound : IsPlaced table
+  pub slots : 0 < table.schema.chunk_size
+  pub few : length table.rows + 1 ≤ MOST_ROWS
+  pub are : ArePlacesOf table places
+  pub taken : IsPlaceFor places partition place
+
+is_place_at : (size c s : ℕ) (row : Row) → 0 < c → c < 2 ^ 32 → s < size → is_place size (record { row = row; chunk = c; slot = s }) ≡ true
+is_place_at size c s row low high within = and_from _ _ (lt-ltb 0 c low) (and_from _ _ (lt-ltb c (2 ^ 32) high) (lt-ltb s size within))
+
+pub new_place : (table : PlacedTable) (places : PlaceMap) (partition : List Value) (place : Place) (row : Row) → HasPlace table places partition place →
+    is_place table.schema.chunk_size (record { row = row; chunk = chunk_of place; slot = slot_of place }) ≡ true
+new_place table places partition (Slot c s) row has =
+    let there : is_some (first_in table.rows c) ≡ true = sym (chunk_rows table places has.are c) ∙ ap is_some has.taken.chunk in
+    let number = first_of table.schema.chunk_size c table.rows has.sound.places there in
+    let within : s < table.schema.chunk_size = subst (λ (n : ℕ). s < n) has.are.size has.taken.within in
+    is_place_at table.schema.chunk_size c s row number.0 number.1 within
+new_place table places partition (NewChunk zero) row has = let never = has.taken.positive in absurd (omega (arith, never))
+new_place table places partition (NewChunk (suc n)) row has =
+    let counted = chunks_counted n table.rows (λ d low high. sym (chunk_rows table places has.are d) ∙ has.taken.lower d low (omega (arith, high))) in
+    let few = has.few in
+    is_place_at table.schema.chunk_size (suc n) 0 row (omega arith) (omega (arith, counted, few)) has.slots
+
+none_first : (c s : ℕ) (ps : List PlacedRow) → first_in ps c ≡ None → row_at ps c s ≡ None
+none_first c s [] none = refl
+none_first c s (p ∷ ps) none = by_test (λ h. none_first c s ps h) (p.chunk == c) none where
+  by_test : (first_in ps c ≡ None → row_at ps c s ≡ None) → (t : Bool) → cond t (Some p) (first_in ps c) ≡ None → cond (t && p.slot == s) (Some p) (row_at ps c s) ≡ None
+  by_test rest true h = absurd cc
+  by_test rest false h = rest h
+
+pub new_apart : (table : PlacedTable) (places : PlaceMap) (partition : List Value) (place : Place) (row : Row) → HasPlace table places partition place →
+    AllByRecursion (AreApart (record { row = row; chunk = chunk_of place; slot = slot_of place })) table.rows
+new_apart table places partition (Slot c s) row has =
+    let free : is_some (option_map (partition_in table.schema.columns) (row_at table.rows c s)) ≡ false = sym (ap is_some (has.are.used c s)) ∙ has.taken.free in
+    apart-from (record { row = row; chunk = c; slot = s }) table.rows (none_left (partition_in table.schema.columns) (row_at table.rows c s) free)
+new_apart table places partition (NewChunk c) row has =
+    let free : is_some (option_map (partition_in table.schema.columns) (first_in table.rows c)) ≡ false = sym (ap is_some (has.are.chunks c)) ∙ has.taken.unused in
+    apart-from (record { row = row; chunk = c; slot = 0 }) table.rows (none_first c 0 table.rows (none_left (partition_in table.schema.columns) (first_in table.rows c) free))
+
+first_values : (f : PlacedRow → List Value) (o : Option PlacedRow) (q : PlacedRow) (partition : List Value) → option_map f o ≡ Some partition → o ≡ Some q → partition ≡ f q
+first_values f None q partition is found = absurd cc
+first_values f (Some p) q partition is found =
+    let same : p ≡ q = cc in
+    let values : f p ≡ partition = cc in
+    sym values ∙ ap f same
+
+pub new_alike : (table : PlacedTable) (places : PlaceMap) (place : Place) (row : Row) → HasPlace table places (partition_of table.schema.columns row.values) place →
+    AllByRecursion (AreAlike table.schema.columns (record { row = row; chunk = chunk_of place; slot = slot_of place })) table.rows
+new_alike table places (Slot c s) row has =
+    alike-from table.schema.columns (record { row = row; chunk = c; slot = s }) table.rows has.sound.alike
+    (λ q found. first_values (partition_in table.schema.columns) (first_in table.rows c) q (partition_of table.schema.columns row.values) (sym (has.are.chunks c) ∙ has.taken.chunk) found)
+new_alike table places (NewChunk c) row has =
+    let free : is_some (option_map (partition_in table.schema.columns) (first_in table.rows c)) ≡ false = sym (ap is_some (has.are.chunks c)) ∙ has.taken.unused in
+    let none = none_left (partition_in table.schema.columns) (first_in table.rows c) free in
+    alike-from table.schema.columns (record { row = row; chunk = c; slot = 0 }) table.rows has.sound.alike (λ q found. absurd (never q (sym none ∙ found)))
+  where
+    never : (q : PlacedRow) → None ≡ Some q → ⊥
+    never q e = absurd cc
