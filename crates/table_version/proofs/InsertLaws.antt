@@ -119,6 +119,6 @@ not-refused table rowid values none =
     let three = both_empty a b two.0 in
     record { free = three.0; alone = three.1; left = two.1; few = over_none ROWS_LIMIT MOST_ROWS (length table.rows + 1) (omega arith) one.1 }
 
-none_twice : (o : Option Row) → duplicate o ≡ [] → o ≡ None
+pub none_twice : (o : Option Row) → duplicate o ≡ [] → o ≡ None
 none_twice None h = refl
 none_twice (Some row) h = absurd cc

@@ -4,9 +4,11 @@ pub mod GrowthLaws
 pub mod InsertLaws
 pub mod KeptBytes
 pub mod KeptLaws
+pub mod OriginLaws
 pub mod PlacedLaws
 pub mod RoomLaws
 pub mod SchemaShape
+pub mod SoundLaws
 pub mod StoredLaws
 pub mod ValidityLaws
 pub mod WeavingLaws
