@@ -1,5 +1,5 @@
 -- What is read of the rows of a store: the next one, the one of an id or a rowid, and those of a chunk.
-use Rattle.std.proofs.Common.{◌≡◌, ℕ, ℤ, zero, suc, ◌<◌, int_lt, Bool, true, false, not, cond, List, [], ◌∷◌, length, refl, sym, ap, ◌∙◌, arith, Some, None}
+use Rattle.std.proofs.Common.{◌≡◌, ℕ, ℤ, zero, suc, ◌<◌, int_lt, Bool, true, false, not, cond, List, [], ◌∷◌, length, refl, sym, ap, ◌∙◌, arith, subst, Some, None}
 use Rattle.std.specs.Prelude.{◌&&◌, ◌||◌, ◌==◌, is_some, bytes_eq, slice_index_or, MatchOption}
 use Rattle.std.specs.List.{AllByRecursion, AllPairs, filter_map, find, list_all, list_any, cons_option}
 use Rattle.std.specs.Option.{option_map, option_and_then}
@@ -293,3 +293,51 @@ never_seen parts c s used seen none = by_part (part_of parts c) none seen where
 pub row-shown : (i : ℤ) (c s : ℕ) (id id' : Option (List ℕ)) (values values' : List Value) (slots : Slots) (used : UsedSlot) → id' ≡ id → values ≡ values' → slot_at slots s ≡ Some used →
     row_made i c s id values used.vectors ≡ row_made i c s id' values' (vectors_in (slot_at slots s))
 row-shown i c s id id' values values' slots used same_id same_values seen = rw (same_id, same_values, seen) refl
+
+pub same_some : {A : Type 0} (a b : A) → Some a ≡ Some b → a ≡ b
+same_some a b e = cc
+
+-- ---- chunks that are there
+
+part-such : (P : Part → Type 0) (ps : List Part) (c : ℕ) (p : Part) → AllByRecursion P ps → part_of ps c ≡ Some p → P p
+part-such P [] c p all is = absurd cc
+part-such P (x ∷ xs) c p all is = by_test (x.number == c) is (λ later. part-such P xs c p all.1 later) where
+  by_test : (t : Bool) → cond t (Some x) (part_of xs c) ≡ Some p → (part_of xs c ≡ Some p → P p) → P p
+  by_test true h rest = let same : x ≡ p = cc in subst P same all.0
+  by_test false h rest = rest h
+
+-- the part whose slots are these
+pub slots-part : (parts : List Part) (c : ℕ) (slots : Slots) → slots_of parts c ≡ Some slots → (p : Part) × ((part_of parts c ≡ Some p) × (p.slots ≡ slots))
+slots-part parts c slots is = mapped-some (λ p. p.slots) (part_of parts c) slots is
+
+-- slots have the shape of all chunks
+pub record HaveShape (size : ℕ) (widths : List ℕ) (slots : Slots) : Type 0 where
+  pub long : length slots.slots ≡ size
+  pub wide : slots.widths ≡ widths
+
+pub slots-shape : (size : ℕ) (widths : List ℕ) (parts : List Part) (c : ℕ) (slots : Slots) → ArePartsOf size widths parts → slots_of parts c ≡ Some slots → HaveShape size widths slots
+slots-shape size widths parts c slots are is =
+    let m = slots-part parts c slots is in
+    let shape : HasShape size widths m.0 = part-such (HasShape size widths) parts c m.0 are.shaped m.1.0 in
+    record { long = ap (λ x. length x.slots) (sym m.1.1) ∙ shape.long; wide = ap (λ x. x.widths) (sym m.1.1) ∙ shape.wide }
+
+module _ (parts : List Part) (places : PlaceMap) (entries : List Entry) (claim : Option RowPlace) (size : ℕ) (widths : List ℕ)
+    (tied : AreTied parts places entries claim) (rise : is_rising entries ≡ true) (are : ArePartsOf size widths parts) where
+
+  -- a chunk is there just where it has a row
+  pub part-first : (c : ℕ) → is_some (part_of parts c) ≡ is_some (first_in (rows_of parts places entries) c)
+  part-first c = by_part (part_of parts c) refl where
+    by_part : (o : Option Part) → part_of parts c ≡ o → is_some o ≡ is_some (first_in (rows_of parts places entries) c)
+    by_part None is = sym (ap is_some (first-nowhere parts places entries claim tied rise c is))
+    by_part (Some p) is = sym (first-there parts places entries claim tied rise size widths c p (part-such (HasShape size widths) parts c p are.shaped is) is)
+
+  pub slots-first : (c : ℕ) → is_some (slots_of parts c) ≡ is_some (first_in (rows_of parts places entries) c)
+  slots-first c = by_part (part_of parts c) ∙ part-first c where
+    by_part : (o : Option Part) → is_some (option_map (λ p. p.slots) o) ≡ is_some o
+    by_part None = refl
+    by_part (Some p) = refl
+
+  pub next-first_in : (after : ℕ) (o : Option ℕ) → MatchOption o ((d : ℕ) → after < d → part_of parts d ≡ None) (λ c. (after < c) × (is_some (part_of parts c) ≡ true) × ((d : ℕ) → after < d → d < c → part_of parts d ≡ None)) →
+      MatchOption o ((d : ℕ) → after < d → first_in (rows_of parts places entries) d ≡ None) (λ c. (after < c) × (is_some (first_in (rows_of parts places entries) c) ≡ true) × ((d : ℕ) → after < d → d < c → first_in (rows_of parts places entries) d ≡ None))
+  next-first_in after None h = λ d lt. first-nowhere parts places entries claim tied rise d (h d lt)
+  next-first_in after (Some c) h = (h.0, sym (part-first c) ∙ h.1, λ d lt below. first-nowhere parts places entries claim tied rise d (h.2 d lt below))
