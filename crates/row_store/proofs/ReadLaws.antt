@@ -1,8 +1,8 @@
 -- What is read of the rows of a store: the next one, the one of an id or a rowid, and those of a chunk.
-use Rattle.std.proofs.Common.{◌≡◌, ℕ, ℤ, zero, suc, ◌<◌, int_lt, Bool, true, false, not, cond, List, [], ◌∷◌, length, refl, sym, ap, ◌∙◌, arith, subst, Some, None}
-use Rattle.std.specs.Prelude.{◌&&◌, ◌||◌, ◌==◌, is_some, bytes_eq, slice_index_or, MatchOption}
+use Rattle.std.proofs.Common.{◌≡◌, ℕ, ℤ, zero, suc, ◌<◌, int_lt, Bool, true, false, not, cond, List, [], ◌∷◌, length, refl, sym, ap, ◌∙◌, arith, subst, Some, None, Bor}
+use Rattle.std.specs.Prelude.{◌&&◌, ◌||◌, ◌==◌, is_some, bytes_eq, slice_index_or, MatchOption, IfSome, option_copied}
 use Rattle.std.specs.List.{AllByRecursion, AllPairs, filter_map, find, list_all, list_any, cons_option}
-use Rattle.std.specs.Option.{option_map, option_and_then}
+use Rattle.std.specs.Option.{option_map, option_and_then, is_none}
 use Rattle.std.specs.Ordering.{int_eq}
 use Rattle.std.specs.declared.option.Option.{Option}
 use Rattle.std.proofs.lemmas.Bool.{and_parts, cond-true, cond-false}
@@ -341,3 +341,36 @@ module _ (parts : List Part) (places : PlaceMap) (entries : List Entry) (claim :
       MatchOption o ((d : ℕ) → after < d → first_in (rows_of parts places entries) d ≡ None) (λ c. (after < c) × (is_some (first_in (rows_of parts places entries) c) ≡ true) × ((d : ℕ) → after < d → d < c → first_in (rows_of parts places entries) d ≡ None))
   next-first_in after None h = λ d lt. first-nowhere parts places entries claim tied rise d (h d lt)
   next-first_in after (Some c) h = (h.0, sym (part-first c) ∙ h.1, λ d lt below. first-nowhere parts places entries claim tied rise d (h.2 d lt below))
+
+-- ---- what holds of an answer
+
+pub if_slots : (P : Slots → Type 0) (o : Option (Bor Slots)) → ((x : Slots) → option_copied o ≡ Some x → P x) → IfSome o (λ s. P s.now)
+if_slots P None each = tt
+if_slots P (Some s) each = each s.now refl
+
+pub if_some-more : {A : Type 0} (P Q : A → Type 0) (o : Option A) → ((x : A) → P x → Q x) → IfSome o P → IfSome o Q
+if_some-more P Q None more h = tt
+if_some-more P Q (Some x) more h = more x h
+
+pub copied-some : {A : Type 0} (o : Option (Bor A)) → is_some (option_copied o) ≡ is_some o
+copied-some None = refl
+copied-some (Some x) = refl
+
+pub is_none-none : {A : Type 0} (o : Option A) → is_none o ≡ true → o ≡ None
+is_none-none None h = refl
+is_none-none (Some x) h = absurd cc
+
+pub is_none-some : {A : Type 0} (o : Option A) → is_none o ≡ false → is_some o ≡ true
+is_none-some None h = absurd cc
+is_none-some (Some x) h = refl
+
+-- ---- the partition values of a chunk
+
+pub first-none : (rows : List StoredRow) (c : ℕ) → is_some (first_in rows c) ≡ false → option_map (λ row. row.partition) (first_in rows c) ≡ None
+first-none rows c none = ap (option_map (λ row. row.partition)) (none_is (first_in rows c) none)
+
+pub first-partition : (parts : List Part) (places : PlaceMap) (entries : List Entry) (claim : Option RowPlace) → AreTied parts places entries claim → is_rising entries ≡ true → (c : ℕ) →
+    is_some (first_in (rows_of parts places entries) c) ≡ true → partition_of_chunk places c ≡ option_map (λ row. row.partition) (first_in (rows_of parts places entries) c)
+first-partition parts places entries claim tied rise c there =
+    let r = some_is (first_in (rows_of parts places entries) c) there in
+    first-values parts places entries claim tied rise c r.0 r.1 ∙ sym (ap (option_map (λ row. row.partition)) r.1)

@@ -89,19 +89,6 @@ fn row_with<'a>(rows: &'a Rows, rowid: &i64) -> Option<RowRef<'a>>
     })
 }
 
-/// The partition values of the rows of a chunk.
-fn partition_of(rows: &Rows, chunk: u32) -> Option<&List<Value>>
-    requires tied { AreTied rows.now.parts rows.now.places rows.now.index rows.now.claim }
-    requires rise { numbers_rise rows.now.parts ≡ true }
-    ensures { option_copied result ≡ option_map (λ row. row.partition) (first_in (seen_rows rows.now) chunk) }
-{
-    rows.index.known();
-    if parts::slots(&rows.parts, chunk).is_none() {
-        return None;
-    }
-    rows.places.partition(chunk)
-}
-
 /// Equal rows. A later change of one leaves the other.
 fn share_rows(rows: &Rows) -> Result<Rows, Memory>
     ensures { IfOk result (λ other. other ≡ rows.now) }
@@ -112,6 +99,17 @@ fn share_rows(rows: &Rows) -> Result<Rows, Memory>
         index: rows.index.share()?,
         claim: rows.claim,
     })
+}
+
+/// Equal widths.
+fn copied_widths(alloc: Global, widths: &List<u16>) -> Result<List<u16>, Memory>
+    ensures { IfOk result (λ copy. copy ≡ widths.now) }
+{
+    let mut copy = Vec::with_capacity(alloc, widths.len())?;
+    for width in widths.as_slice() {
+        copy.push(*width)?;
+    }
+    Ok(List::from_vec(copy))
 }
 
 impl RowStore {
@@ -154,7 +152,11 @@ impl RowStore {
     pub fn partition(&self, chunk: u32) -> Option<&List<Value>>
         ensures { option_copied result ≡ option_map (λ row. row.partition) (first_in self.now.rows chunk) }
     {
-        partition_of(&self.rows, chunk)
+        self.rows.index.known();
+        if parts::slots(&self.rows.parts, chunk).is_none() {
+            return None;
+        }
+        self.rows.places.partition(chunk)
     }
 
     /// The least number above another of a chunk that has a row.
@@ -165,5 +167,22 @@ impl RowStore {
     {
         self.rows.index.known();
         parts::next_number(&self.rows.parts, after)
+    }
+
+    /// An equal store, of which nothing is touched. A later change of one leaves the other.
+    pub fn share(&self, alloc: Global) -> Result<RowStore, Memory>
+        ensures rows { IfOk result (λ other. other.rows ≡ self.now.rows) }
+        ensures size { IfOk result (λ other. other.size ≡ self.now.size) }
+        ensures widths { IfOk result (λ other. other.widths ≡ self.now.widths) }
+        ensures follows { IfOk result (λ other. Follows self.now.rows other) }
+    {
+        self.rows.places.known();
+        Ok(RowStore {
+            size: self.size,
+            widths: copied_widths(alloc, &self.widths)?,
+            rows: share_rows(&self.rows)?,
+            count: self.count,
+            touched: Touched::new(alloc, self.size)?,
+        })
     }
 }
