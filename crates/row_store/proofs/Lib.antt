@@ -2,6 +2,8 @@ mod KeyedLaws
 mod PartLaws
 mod PickLaws
 mod PlaceLaws
+mod ReadLaws
+mod SearchLaws
 mod TieLaws
 mod TouchLaws
 mod ViewLaws

@@ -445,7 +445,7 @@ left_at parts new at slot lt rise used few is =
 
 -- ---- the part that a search finds
 
-part_of-number : (parts : List Part) (c : ℕ) (x : Part) → part_of parts c ≡ Some x → x.number ≡ c
+pub part_of-number : (parts : List Part) (c : ℕ) (x : Part) → part_of parts c ≡ Some x → x.number ≡ c
 part_of-number [] c x is = absurd cc
 part_of-number (y ∷ ys) c x is = by_test (y.number == c) refl is (λ later. part_of-number ys c x later) where
   by_test : (t : Bool) → (y.number == c) ≡ t → cond t (Some y) (part_of ys c) ≡ Some x → (part_of ys c ≡ Some x → x.number ≡ c) → x.number ≡ c

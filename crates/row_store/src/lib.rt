@@ -4,9 +4,11 @@
 mod part;
 mod parts;
 mod place;
+mod readers;
 mod rows;
 mod store;
 mod touched;
 
 pub use place::RowPlace;
+pub use readers::RowRef;
 pub use store::RowStore;
