@@ -140,3 +140,6 @@ pub keyed-representable : (columns : List Column) (rowid : ℤ) (values : List V
 keyed-representable [] rowid values fits all = all
 keyed-representable (column ∷ columns) rowid [] fits all = tt
 keyed-representable (column ∷ columns) rowid (value ∷ values) fits all = (held column.kind rowid value fits all.0, keyed-representable columns rowid values fits all.1)
+
+pub sum_step : (value : Value) (values : List Value) → sum_by side_bytes (value ∷ values) ≡ side_bytes value + sum_by side_bytes values
+sum_step value values = sum_by-cons side_bytes value values

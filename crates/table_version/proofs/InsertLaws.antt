@@ -13,6 +13,7 @@ use Rattle.chunk_slots.specs.Slots.{vectors_of}
 use Rattle.row_model.specs.Change.{assigned, duplicate, keyed, larger, rows_side_bytes, same_id, spent, taken_id, taken_rowid}
 use Rattle.row_model.specs.Limits.{over_rows}
 use Rattle.row_model.specs.RepresentableStatements.{AreRepresentable}
+use Rattle.row_model.specs.RefusalOrder.{when}
 use Rattle.row_model.specs.Rows.{has_rowid}
 use Rattle.row_model.specs.Schemas.{count_of, is_key}
 use Rattle.row_model.specs.Valid.{are_valid_values, is_valid_row}
@@ -25,6 +26,8 @@ use Rattle.row_model.specs.declared.schema.Schema.{Schema}
 use Rattle.row_model.proofs.SchemaLaws.{faultless}
 use Rattle.row_model.proofs.SelectLaws.{both_empty}
 use Rattle.row_model.proofs.ValidityRows.{over_none}
+use Rattle.row_store.specs.Shown.{shown}
+use Rattle.row_store.specs.declared.readers.RowRef.{RowRef}
 use Rattle.row_store.specs.StoredRows.{StoredRow, PlacesAre, has_text, lies_at, rowid_of, row_of as stored_of, row_with_id as stored_with_id, with_row}
 use Rattle.row_store.specs.Touches.{StoreState, IsPut, HasSameShape}
 use Rattle.slot_alloc.specs.Places.{PlaceMap}
@@ -33,6 +36,7 @@ use Rattle.shadow_records.specs.PlacedTables.{PlacedRow, PlacedTable, IsPlaced, 
 use Rattle.table_version.specs.Inserting.{are_fitting, insert_refusals, new_row, partition_in, ArePlacesOf, IsInserted}
 use Rattle.table_version.specs.Kept.{id_in, is_one_id}
 use Rattle.table_version.specs.PlacedRows.{with_placed, table_with}
+use Rattle.table_version.specs.inner.Refusing.{given_taken, taken_text, twice}
 use Rattle.table_version.specs.inner.StoredTables.{placed, placed_rows, stored, table_from, GivesAgain, IsSound}
 use Rattle.table_version.specs.inner.Weaving.{woven}
 use Rattle.table_version.proofs.ByteLaws.{side_bytes-with}
@@ -45,15 +49,6 @@ use Rattle.table_version.proofs.ValidityLaws.{FitsIfGiven, assigned-fits, assign
 use Rattle.table_version.proofs.WeavingLaws.{woven-back}
 
 -- ---- what refuses it
-
-abbrev pub twice : Option ℤ → List Refusal
-twice None = []
-twice (Some rowid) = Duplicate rowid ∷ []
-
--- the text is that of a row
-abbrev pub taken_text : Option (List ℕ) → List StoredRow → List Refusal
-taken_text None rows = []
-taken_text (Some id) rows = twice (option_map rowid_of (stored_with_id id rows))
 
 same_text : (a b : List ℕ) → bytes_eq a b ≡ bytes_eq b a
 same_text a b = by_test (bytes_eq a b) refl (bytes_eq b a) refl where
@@ -122,3 +117,14 @@ not-refused table rowid values none =
 pub none_twice : (o : Option Row) → duplicate o ≡ [] → o ≡ None
 none_twice None h = refl
 none_twice (Some row) h = absurd cc
+
+-- what is shown of a row is there
+pub shown_some : (i : ℤ) (rows : List StoredRow) (o : Option RowRef) → stored_of i rows ≡ option_map (shown i) o → is_some (stored_of i rows) ≡ is_some o
+shown_some i rows o is = ap is_some is ∙ same_some i o where
+  same_some : (i : ℤ) (o : Option RowRef) → is_some (option_map (shown i) o) ≡ is_some o
+  same_some i None = refl
+  same_some i (Some x) = refl
+
+pub taken_rowid-stored : (columns : List Column) (rowid : Option ℤ) (rows : List StoredRow) → taken_rowid (plain_rows (placed_rows columns rows)) rowid ≡ given_taken rowid rows
+taken_rowid-stored columns None rows = refl
+taken_rowid-stored columns (Some i) rows = ap (λ (b : Bool). when b (Duplicate i)) (has_rowid-stored columns i rows)

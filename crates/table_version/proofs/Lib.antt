@@ -6,6 +6,8 @@ pub mod KeptBytes
 pub mod KeptLaws
 pub mod OriginLaws
 pub mod PlacedLaws
+pub mod PutLaws
+pub mod ReaderLaws
 pub mod RoomLaws
 pub mod SchemaShape
 pub mod SoundLaws

@@ -15,7 +15,7 @@ use Rattle.row_store.specs.StoredRows.{StoredRow, row_of as stored_of, row_at as
 use Rattle.row_store.specs.Touches.{StoreState, Touches, is_touched_place, is_touched_row, Follows as FollowsStored, KeepsOrigin as KeepsStored}
 use Rattle.shadow_records.specs.PlacedTables.{PlacedRow, PlacedTable, IsPlaced, plain_rows, row_at, row_of}
 use Rattle.table_version.specs.Versions.{IsPlainSchema, VersionState, Follows, KeepsOrigin}
-use Rattle.table_version.specs.inner.StoredTables.{placed, placed_rows, stored, table_from, GivesAgain, IsSound}
+use Rattle.table_version.specs.inner.StoredTables.{placed, placed_rows, stored, table_from, version_of, GivesAgain}
 use Rattle.table_version.proofs.StoredLaws.{found-one, placed-of, placed-at}
 use Rattle.table_version.proofs.WeavingLaws.{woven-back}
 
@@ -98,9 +98,6 @@ from_at columns ps xs ys c s is same =
     ap (λ (qs : List PlacedRow). row_at qs c s) (sym is.placed) ∙ placed-at columns xs c s ∙ ap (λ (o : Option StoredRow). option_map (placed columns) o) same ∙ sym (placed-at columns ys c s)
 
 -- ---- what follows
-
-abbrev pub version_of : List ℕ → Schema → ℤ → StoreState → VersionState
-version_of name schema top store = record { table = table_from name schema top store.rows; touches = store.touches }
 
 -- what keeps the origin of the store keeps that of the table
 pub keeps-origin : (name : List ℕ) (schema : Schema) (before after : ℤ) (old new : StoreState) → IsPlainSchema schema → AllByRecursion (GivesAgain schema.columns) old.rows → KeepsStored old new →

@@ -1,9 +1,10 @@
 -- A sound store stays one: with no rows, with one row more, and with one row less.
-use Rattle.std.proofs.Common.{◌≡◌, ℕ, ℤ, pos, ◌+◌, ◌<◌, ◌≤◌, Bool, true, false, List, [], ◌∷◌, ◌∙◌, refl, sym, ap, ap₂, subst, arith, length, Option, Some, None}
+use Rattle.std.proofs.Common.{◌≡◌, ℕ, ℤ, pos, ◌+◌, ◌<◌, ◌≤◌, ◌^◌, Bool, true, false, List, [], ◌∷◌, ◌∙◌, refl, sym, ap, ap₂, subst, arith, length, Option, Some, None}
 use Rattle.std.specs.Prelude.{◌==◌, find, sum_by, nat_lt, FitsSigned}
 use Rattle.std.specs.Int.{w64}
-use Rattle.std.specs.List.{AllByRecursion}
+use Rattle.std.specs.List.{All, AllByRecursion}
 use Rattle.std.specs.Option.{option_map}
+use Rattle.vec_base.specs.declared.limits.TheConstants.{MOST_DIMENSIONS}
 use Rattle.vec_base.specs.Words.{is_name}
 use Rattle.vec_base.specs.declared.value.Value.{Value}
 use Rattle.chunk_slots.specs.Slots.{vectors_of}
@@ -19,7 +20,7 @@ use Rattle.row_model.specs.declared.schema.Column.{Column}
 use Rattle.row_model.specs.declared.schema.Schema.{Schema}
 use Rattle.row_model.proofs.SchemaLaws.{faultless}
 use Rattle.row_store.specs.StoredRows.{StoredRow, PlacesAre, lies_at, with_row, without}
-use Rattle.row_store.specs.Touches.{StoreState, IsPut, HasSameShape}
+use Rattle.row_store.specs.Touches.{StoreState, IsChunkShape, IsPut, HasSameShape}
 use Rattle.slot_alloc.specs.Places.{PlaceMap}
 use Rattle.slot_alloc.specs.SlotRule.{IsPlaceFor, chunk_of, slot_of}
 use Rattle.slot_alloc.specs.declared.place.Place.{Place}
@@ -30,15 +31,15 @@ use Rattle.table_version.specs.PlacedRows.{with_placed, without_placed, table_wi
 use Rattle.table_version.specs.Versions.{IsPlainSchema}
 use Rattle.table_version.specs.inner.StoredTables.{placed, placed_rows, stored, table_from, GivesAgain, IsSound}
 use Rattle.table_version.specs.inner.Weaving.{woven}
-use Rattle.table_version.proofs.ByteLaws.{side_bytes-with}
+use Rattle.table_version.proofs.ByteLaws.{side_bytes-fit, side_bytes-with}
 use Rattle.table_version.proofs.GivenLaws.{AreKeyedWell, keyed-well, keyed-representable}
 use Rattle.table_version.proofs.InsertLaws.{IsWelcome, none_twice, not-refused}
 use Rattle.table_version.proofs.PlacedLaws.{IsPlacedNew, plain-with, plain-without, placed-with as table-with, placed-without as table-less}
 use Rattle.table_version.proofs.RoomLaws.{HasPlace, new_place, new_apart, new_alike}
 use Rattle.table_version.proofs.SchemaShape.{chunk-size}
 use Rattle.table_version.proofs.StoredLaws.{all-with, all-without, placed-at, placed-first, placed-with, placed-without, same_partition}
-use Rattle.table_version.proofs.ValidityLaws.{FitsIfGiven, assigned-fits, assigned-fresh}
-use Rattle.table_version.proofs.WeavingLaws.{woven-back}
+use Rattle.table_version.proofs.ValidityLaws.{assigned-fresh}
+use Rattle.table_version.proofs.WeavingLaws.{short-widths, woven-back}
 
 -- ---- places
 
@@ -96,7 +97,7 @@ pub record IsGiven (name : List ℕ) (schema : Schema) (top : ℤ) (store : Stor
   pub sound : IsSound name schema top store sides
   pub fits : are_fitting schema.columns values ≡ true
   pub representable : AreRepresentable values
-  pub number : FitsIfGiven rowid
+  pub number : FitsSigned w64 (assigned top rowid)
   pub none : insert_refusals (plain (table_from name schema top store.rows)) rowid values ≡ []
 
 pub given_fresh : (name : List ℕ) (schema : Schema) (top : ℤ) (store : StoreState) (sides : ℕ) (rowid : Option ℤ) (values : List Value) (places : PlaceMap) (place : Place) →
@@ -110,7 +111,6 @@ given_fresh name schema top store sides rowid values places place given are take
     let well = keyed-well schema.columns made values given.fits in
     let welcome = not-refused (plain table) rowid values given.none in
     let row : Row = record { rowid = made; values = keyed schema.columns made values } in
-    let fits = assigned-fits (plain table) rowid valid given.number in
     let longer = same_length store.rows in
     let room = welcome.few in
     let size = (chunk-size schema valid.schema).least in
@@ -123,7 +123,7 @@ given_fresh name schema top store sides rowid values places place given are take
     } in
     record {
       fits = well.valid;
-      representable = record { rowid = fits; values = keyed-representable schema.columns made values fits given.representable };
+      representable = record { rowid = given.number; values = keyed-representable schema.columns made values given.number given.representable };
       rowid = assigned-fresh top (plain_rows table.rows) rowid valid.topped welcome.free welcome.left;
       id = none_twice (find (λ r. same_id schema.columns row.values r.values) (plain_rows table.rows)) welcome.alone;
       few = omega (arith, room, longer);
@@ -252,3 +252,16 @@ sound-kept name schema top old new sides sound is shape =
       again = subst (λ (rs : List StoredRow). AllByRecursion (GivesAgain schema.columns) rs) (sym is) sound.again;
       sides = subst (λ (rs : List StoredRow). sides ≡ rows_side_bytes (plain_rows (placed_rows schema.columns rs))) (sym is) sound.sides;
     }
+
+-- ---- sizes
+
+pub chunk_shape : (schema : Schema) (widths : List ℕ) → IsValidSchema schema → widths ≡ widths_of schema.columns → IsChunkShape schema.chunk_size widths
+chunk_shape schema widths valid is =
+    let size = chunk-size schema valid in
+    record { eights = size.eights; few = size.most; short = subst (λ (ws : List ℕ). All (λ width. width ≤ MOST_DIMENSIONS) ws) (sym is) (short-widths schema valid) }
+
+pub sides_fit : (name : List ℕ) (schema : Schema) (top : ℤ) (store : StoreState) (sides : ℕ) → IsSound name schema top store sides → sides < 2 ^ 64
+sides_fit name schema top store sides sound =
+    let fits = side_bytes-fit (plain (table_from name schema top store.rows)) sound.placed.valid in
+    let same = sound.sides in
+    omega (arith, fits, same)

@@ -1,5 +1,6 @@
 -- The state of a table with places, and where it may differ from the one that it was shared from.
-use Rattle.std.specs.Prelude.{◌≡◌, ℕ, ℤ, false, ◌==◌, List, find, Option}
+use Rattle.std.specs.Prelude.{◌≡◌, ℕ, ℤ, pos, false, List, [], find, Option}
+use Rattle.chunk_slots.specs.Slots.{UsedSlot, vectors_of}
 use Rattle.row_model.specs.Schemas.{has_some, is_auxiliary, is_metadata}
 use Rattle.row_model.specs.declared.schema.Column.{Column}
 use Rattle.row_model.specs.declared.schema.Schema.{Schema}
@@ -18,6 +19,9 @@ pub record VersionState : Type 0 where
   pub table : PlacedTable
   pub touches : Touches
 
+abbrev pub empty_table : List ℕ → Schema → PlacedTable
+empty_table name schema = record { name = name; schema = schema; top = pos 0; rows = [] }
+
 -- ---- finding rows
 
 abbrev pub rowid_in : PlacedRow → ℤ
@@ -30,6 +34,10 @@ next_row after rows = find (λ placed. is_above after placed.row.rowid) rows
 -- the row whose text key is this text
 abbrev pub row_with_id : List Column → List ℕ → List PlacedRow → Option PlacedRow
 row_with_id columns id rows = find (λ placed. has_text id (id_in columns placed.row.values)) rows
+
+-- what a slot holds of its row
+abbrev pub slot_of_row : PlacedRow → UsedSlot
+slot_of_row placed = record { rowid = placed.row.rowid; vectors = vectors_of placed.row.values }
 
 -- ---- what was shared
 

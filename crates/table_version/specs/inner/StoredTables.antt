@@ -9,7 +9,7 @@ use Rattle.row_store.specs.Touches.{StoreState}
 use Rattle.chunk_slots.specs.Slots.{vectors_of}
 use Rattle.shadow_records.specs.PlacedTables.{PlacedRow, PlacedTable, IsPlaced, partition_of, plain_rows}
 use Rattle.table_version.specs.Kept.{id_in, widths_of}
-use Rattle.table_version.specs.Versions.{IsPlainSchema}
+use Rattle.table_version.specs.Versions.{IsPlainSchema, VersionState}
 use Rattle.table_version.specs.inner.Weaving.{woven}
 
 -- the row that is stored so
@@ -45,3 +45,6 @@ pub record IsSound (name : List ℕ) (schema : Schema) (top : ℤ) (store : Stor
   pub widths : store.widths ≡ widths_of schema.columns
   pub again : AllByRecursion (GivesAgain schema.columns) store.rows
   pub sides : side_bytes ≡ rows_side_bytes (plain_rows (placed_rows schema.columns store.rows))
+
+abbrev pub version_of : List ℕ → Schema → ℤ → StoreState → VersionState
+version_of name schema top store = record { table = table_from name schema top store.rows; touches = store.touches }

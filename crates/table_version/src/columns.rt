@@ -1,0 +1,40 @@
+//! What columns say of the vectors of a row.
+ghost use Rattle.std.specs.Prelude.{◌≡◌, ◌++◌, IfOk, OnOk};
+ghost use Rattle.table_version.specs.Kept.{vector_width, widths_of};
+
+use row_model::{Column, Kind};
+use std::alloc::Global;
+use vec_base::{List, Memory};
+
+/// The bytes of a vector of a column, if it is one of vectors.
+fn vector_width(kind: Kind) -> Option<u16>
+    ensures { result ≡ vector_width kind }
+{
+    match kind {
+        Kind::Int8Vector(width, _) => Some(width),
+        Kind::BitVector(width) => Some(width / 8),
+        _ => None,
+    }
+}
+
+/// Adds the bytes of a vector of each vector column.
+fn add_widths(columns: &[Column], widths: &mut List<u16>) -> Result<(), Memory>
+    ensures { OnOk result (widths.new ≡ widths.old ++ widths_of columns.now) }
+{
+    let Some((column, columns)) = columns.split_first() else {
+        return Ok(());
+    };
+    if let Some(width) = vector_width(column.kind) {
+        widths.push(width)?;
+    }
+    add_widths(columns, widths)
+}
+
+/// The bytes of a vector of each vector column.
+pub(crate) fn widths_of(alloc: Global, columns: &[Column]) -> Result<List<u16>, Memory>
+    ensures { IfOk result (λ widths. widths ≡ widths_of columns.now) }
+{
+    let mut widths = List::new(alloc);
+    add_widths(columns, &mut widths)?;
+    Ok(widths)
+}
