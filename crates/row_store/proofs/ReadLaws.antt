@@ -1,6 +1,6 @@
 -- What is read of the rows of a store: the next one, the one of an id or a rowid, and those of a chunk.
-use Rattle.std.proofs.Common.{◌≡◌, ℕ, ℤ, zero, suc, ◌<◌, int_lt, Bool, true, false, not, cond, List, [], ◌∷◌, length, refl, sym, ap, ◌∙◌, arith, subst, Some, None, Bor}
-use Rattle.std.specs.Prelude.{◌&&◌, ◌||◌, ◌==◌, is_some, bytes_eq, slice_index_or, MatchOption, IfSome, option_copied}
+use Rattle.std.proofs.Common.{◌≡◌, ℕ, ℤ, zero, suc, ◌<◌, ◌^◌, int_lt, Bool, true, false, not, cond, List, [], ◌∷◌, length, refl, sym, ap, ◌∙◌, arith, subst, Some, None, Bor}
+use Rattle.std.specs.Prelude.{map, ◌&&◌, ◌||◌, ◌==◌, is_some, bytes_eq, slice_index_or, MatchOption, IfSome, option_copied}
 use Rattle.std.specs.List.{AllByRecursion, AllPairs, filter_map, find, list_all, list_any, cons_option}
 use Rattle.std.specs.Option.{option_map, option_and_then, is_none}
 use Rattle.std.specs.Ordering.{int_eq}
@@ -20,6 +20,7 @@ use Rattle.row_store.specs.declared.part.Part.{Part}
 use Rattle.row_store.specs.declared.place.RowPlace.{RowPlace}
 use Rattle.row_store.specs.inner.Parts.{part_of, slots_of, seen_at, seen_in, HasShape, ArePartsOf}
 use Rattle.row_store.specs.inner.Views.{row_in, row_from, rows_of, is_claimed, is_claimed_rowid, AreTied, values_or_none}
+use Rattle.row_store.proofs.PartLaws.{part_of-number}
 use Rattle.row_store.proofs.PickLaws.{KeepsKeys, picked-keyed, picked-rise}
 use Rattle.row_store.proofs.SearchLaws.{IsSameTest, find-picked_nowhere, find-picked_first, find-picked_above, found-keyed, found-test, found-all, mapped-some, mapped-none, any-none, pairs-by_key}
 use Rattle.row_store.proofs.TieLaws.{entry_rowid, keeps, entries_rise, entry-rowid, eq_from, eq_to, some_is, number_is, chunk_used}
@@ -211,6 +212,7 @@ module _ (parts : List Part) (places : PlaceMap) (entries : List Entry) (claim :
   pub record IsSeen (r : StoredRow) : Type 0 where
     pub used : UsedSlot
     pub seen : seen_at parts r.chunk r.slot ≡ Some used
+    pub own : used.rowid ≡ r.rowid
     pub vectors : r.vectors ≡ used.vectors
     pub valued : partition_of_chunk places r.chunk ≡ Some r.partition
     pub taken : is_used places r.chunk r.slot ≡ true
@@ -226,7 +228,7 @@ module _ (parts : List Part) (places : PlaceMap) (entries : List Entry) (claim :
         let taken = tied.placed r.chunk r.slot (ap is_some at) in
         let u = at-used places r.chunk r.slot taken in
         record {
-          used = told.used; seen = at; vectors = ap (λ z. z.vectors) told.is;
+          used = told.used; seen = at; own = told.own ∙ sym (ap (λ z. z.rowid) told.is); vectors = ap (λ z. z.vectors) told.is;
           valued = u.1.1 ∙ ap Some (sym (p_is ∙ ap (λ d. values_or_none (partition_of_chunk places d)) (sym c_is) ∙ ap values_or_none u.1.1));
           taken = taken;
         }
@@ -374,3 +376,78 @@ pub first-partition : (parts : List Part) (places : PlaceMap) (entries : List En
 first-partition parts places entries claim tied rise c there =
     let r = some_is (first_in (rows_of parts places entries) c) there in
     first-values parts places entries claim tied rise c r.0 r.1 ∙ sym (ap (option_map (λ row. row.partition)) r.1)
+
+-- ---- what holds of all rows
+
+pub record AreRows (size : ℕ) (widths : List ℕ) (rows : List StoredRow) : Type 0 where
+  pub rising : keys_rise rowid_of rows ≡ true
+  pub positive : AllByRecursion (λ row. 0 < row.chunk) rows
+  pub narrow : AllByRecursion (λ row. row.chunk < 2 ^ 32) rows
+  pub within : AllByRecursion (λ row. row.slot < size) rows
+  pub wide : AllByRecursion (λ row. map length row.vectors ≡ widths) rows
+  pub apart : AllPairs (λ row later. row.chunk ≡ later.chunk → row.slot ≡ later.slot → ⊥) rows
+  pub alike : AllPairs (λ row later. row.chunk ≡ later.chunk → row.partition ≡ later.partition) rows
+
+all-turned : {A : Type 0} (P Q : A → Type 0) (xs : List A) → ((x : A) → P x → Q x) → AllByRecursion P xs → AllByRecursion Q xs
+all-turned P Q [] turn all = tt
+all-turned P Q (x ∷ xs) turn all = (turn x all.0, all-turned P Q xs turn all.1)
+
+positive_at : (places : PlaceMap) (c s : ℕ) → IsPlaceMap places → is_used places c s ≡ true → 0 < c
+positive_at places zero s known used = let never : true ≡ false = sym (chunk_used places 0 s used) ∙ known.positive in absurd cc
+positive_at places (suc c) s known used = omega arith
+
+part-seen : (parts : List Part) (c s : ℕ) (used : UsedSlot) → seen_at parts c s ≡ Some used → (p : Part) × ((part_of parts c ≡ Some p) × (slot_at p.slots s ≡ Some used))
+part-seen parts c s used seen = by_part (part_of parts c) refl seen where
+  by_part : (o : Option Part) → part_of parts c ≡ o → seen_in o s ≡ Some used → (p : Part) × ((part_of parts c ≡ Some p) × (slot_at p.slots s ≡ Some used))
+  by_part None is h = absurd cc
+  by_part (Some p) is h = (p, (is, h))
+
+lt_self : (a b : ℤ) → a ≡ b → int_lt a b ≡ true → ⊥
+lt_self a b e h = let same : int_lt b b ≡ true = ap (λ z. int_lt z b) (sym e) ∙ h in let never : true ≡ false = sym same ∙ not_below b in absurd cc where
+  not_below : (z : ℤ) → int_lt z z ≡ false
+  not_below z = grind (arith, ints)
+
+module _ (parts : List Part) (places : PlaceMap) (entries : List Entry) (claim : Option RowPlace) (size : ℕ) (widths : List ℕ)
+    (tied : AreTied parts places entries claim) (rise : is_rising entries ≡ true) (are : ArePartsOf size widths parts) (known : IsPlaceMap places) (sized : places.size ≡ size) where
+
+  rows-rise : keys_rise rowid_of (rows_of parts places entries) ≡ true
+  rows-rise = picked-rise entry_rowid rowid_of (row_from parts places) entries (keeps parts places) (entries_rise entries rise)
+
+  abbrev Seen : StoredRow → Type 0
+  Seen r = IsSeen parts places entries claim tied rise r
+
+  all-seen : AllByRecursion Seen (rows_of parts places entries)
+  all-seen = rows-seen parts places entries claim tied rise
+
+  narrow_row : (r : StoredRow) → Seen r → r.chunk < 2 ^ 32
+  narrow_row r s =
+      let p = part-seen parts r.chunk r.slot s.used s.seen in
+      let shape : HasShape size widths p.0 = part-such (HasShape size widths) parts r.chunk p.0 are.shaped p.1.0 in
+      let number : p.0.number ≡ r.chunk = part_of-number parts r.chunk p.0 p.1.0 in
+      subst (λ n. n < 2 ^ 32) number shape.narrow
+
+  wide_row : (r : StoredRow) → Seen r → map length r.vectors ≡ widths
+  wide_row r s =
+      let p = part-seen parts r.chunk r.slot s.used s.seen in
+      let shape : HasShape size widths p.0 = part-such (HasShape size widths) parts r.chunk p.0 are.shaped p.1.0 in
+      ap (map length) s.vectors ∙ shape.vectors r.slot s.used p.1.1
+
+  apart_rows : (r q : StoredRow) → Seen r → Seen q → int_lt r.rowid q.rowid ≡ true → r.chunk ≡ q.chunk → r.slot ≡ q.slot → ⊥
+  apart_rows r q s t lt c_is s_is =
+      let seen : seen_at parts r.chunk r.slot ≡ Some t.used = seen_like parts r.chunk q.chunk r.slot q.slot (Some t.used) c_is s_is t.seen in
+      let used_is : s.used ≡ t.used = same_some s.used t.used (sym s.seen ∙ seen) in
+      lt_self r.rowid q.rowid (sym s.own ∙ ap (λ u. u.rowid) used_is ∙ t.own) lt
+
+  alike_rows : (r q : StoredRow) → Seen r → Seen q → r.chunk ≡ q.chunk → r.partition ≡ q.partition
+  alike_rows r q s t c_is = same_some r.partition q.partition (sym s.valued ∙ ap (partition_of_chunk places) c_is ∙ t.valued)
+
+  pub rows-known : AreRows size widths (rows_of parts places entries)
+  rows-known = record {
+    rising = rows-rise;
+    positive = all-turned Seen (λ row. 0 < row.chunk) _ (λ r s. positive_at places r.chunk r.slot known s.taken) all-seen;
+    narrow = all-turned Seen (λ row. row.chunk < 2 ^ 32) _ narrow_row all-seen;
+    within = all-turned Seen (λ row. row.slot < size) _ (λ r s. subst (λ n. r.slot < n) sized (known.within r.chunk r.slot s.taken)) all-seen;
+    wide = all-turned Seen (λ row. map length row.vectors ≡ widths) _ wide_row all-seen;
+    apart = pairs-by_key rowid_of Seen (λ row later. row.chunk ≡ later.chunk → row.slot ≡ later.slot → ⊥) _ rows-rise all-seen apart_rows;
+    alike = pairs-by_key rowid_of Seen (λ row later. row.chunk ≡ later.chunk → row.partition ≡ later.partition) _ rows-rise all-seen (λ r q s t lt. alike_rows r q s t);
+  }

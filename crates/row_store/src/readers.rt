@@ -1,5 +1,6 @@
 //! What is read of the rows of a store.
-ghost use Rattle.std.specs.Prelude.{◌≡◌, ℕ, ◌<◌, true, length, None, Some, IfOk, IfSome, MatchOption, is_some};
+ghost use Rattle.std.specs.Prelude.{◌≡◌, ℕ, ◌<◌, ◌^◌, true, length, map, None, Some, IfOk, IfSome, MatchOption, is_some};
+ghost use Rattle.std.specs.List.{AllByRecursion, AllPairs};
 ghost use Rattle.std.specs.Option.{option_copied, option_map};
 ghost use Rattle.chunk_slots.specs.Slots.{slot_at};
 ghost use Rattle.slot_alloc.specs.Places.{IsChunkSize, IsPlaceMap};
@@ -113,6 +114,20 @@ fn copied_widths(alloc: Global, widths: &List<u16>) -> Result<List<u16>, Memory>
 }
 
 impl RowStore {
+    /// What holds of the rows of every store. The call does nothing: its clauses are all that it gives.
+    pub fn known(&self)
+        ensures rising { keys_rise rowid_of self.now.rows ≡ true }
+        ensures positive { AllByRecursion (λ row. 0 < row.chunk) self.now.rows }
+        ensures narrow { AllByRecursion (λ row. row.chunk < 2 ^ 32) self.now.rows }
+        ensures within { AllByRecursion (λ row. row.slot < self.now.size) self.now.rows }
+        ensures widths { AllByRecursion (λ row. map length row.vectors ≡ self.now.widths) self.now.rows }
+        ensures apart { AllPairs (λ row later. row.chunk ≡ later.chunk → row.slot ≡ later.slot → ⊥) self.now.rows }
+        ensures alike { AllPairs (λ row later. row.chunk ≡ later.chunk → row.partition ≡ later.partition) self.now.rows }
+    {
+        self.rows.index.known();
+        self.rows.places.known();
+    }
+
     /// The least rowid of a row above one, or the least of all.
     pub fn next(&self, after: Option<i64>) -> Option<i64>
         ensures { result ≡ option_map rowid_of (next_row after self.now.rows) }
