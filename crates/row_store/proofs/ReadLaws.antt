@@ -44,14 +44,6 @@ text_same parts places id e r is = ap (λ q. has_text id q.id) (row-told parts p
   by_id None = refl
   by_id (Some text) = refl
 
-above_up : (after : Option ℤ) (a b : ℤ) → int_lt a b ≡ true → is_behind after a ≡ true → is_behind after b ≡ true
-above_up None a b lt h = refl
-above_up (Some after) a b lt h = lt_on after a b lt h
-
-behind_above : (after : Option ℤ) (i : ℤ) → is_above after i ≡ is_behind after i
-behind_above None i = refl
-behind_above (Some after) i = refl
-
 -- where an entry with an id gives no row, no row has the id
 own_id : (parts : List Part) (places : PlaceMap) (id : List ℕ) (es : List Entry) (e : Entry) → have_own_ids es ≡ true → find (has_id id) es ≡ Some e → row_from parts places e ≡ None → row_with_id id (rows_of parts places es) ≡ None
 own_id parts places id [] e own is none = absurd cc
@@ -357,14 +349,6 @@ if_some-more P Q (Some x) more h = more x h
 pub copied-some : {A : Type 0} (o : Option (Bor A)) → is_some (option_copied o) ≡ is_some o
 copied-some None = refl
 copied-some (Some x) = refl
-
-pub is_none-none : {A : Type 0} (o : Option A) → is_none o ≡ true → o ≡ None
-is_none-none None h = refl
-is_none-none (Some x) h = absurd cc
-
-pub is_none-some : {A : Type 0} (o : Option A) → is_none o ≡ false → is_some o ≡ true
-is_none-some None h = absurd cc
-is_none-some (Some x) h = refl
 
 -- ---- the partition values of a chunk
 

@@ -1,5 +1,5 @@
 //! What is read of the rows of a store.
-ghost use Rattle.std.specs.Prelude.{◌≡◌, ℕ, ◌<◌, ◌^◌, true, length, map, None, Some, IfOk, IfSome, MatchOption, is_some};
+ghost use Rattle.std.specs.Prelude.{◌≡◌, ℕ, ◌<◌, ◌^◌, true, [], length, map, None, Some, IfOk, IfSome, MatchOption, is_some};
 ghost use Rattle.std.specs.List.{AllByRecursion, AllPairs};
 ghost use Rattle.std.specs.Option.{option_copied, option_map};
 ghost use Rattle.chunk_slots.specs.Slots.{slot_at};
@@ -189,6 +189,8 @@ impl RowStore {
         ensures rows { IfOk result (λ other. other.rows ≡ self.now.rows) }
         ensures size { IfOk result (λ other. other.size ≡ self.now.size) }
         ensures widths { IfOk result (λ other. other.widths ≡ self.now.widths) }
+        ensures no_row_touched { IfOk result (λ other. other.touches.rows ≡ []) }
+        ensures no_place_touched { IfOk result (λ other. other.touches.places.chunks ≡ []) }
         ensures follows { IfOk result (λ other. Follows self.now.rows other) }
     {
         self.rows.places.known();
