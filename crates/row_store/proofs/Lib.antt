@@ -6,6 +6,8 @@ mod PickLaws
 mod PlaceLaws
 mod PutLaws
 mod RemoveLaws
+mod ReadLaws
+mod SearchLaws
 mod TieLaws
 mod TouchLaws
 mod ViewLaws

@@ -1,5 +1,5 @@
 -- Parts by rising numbers: which one has a number, and what a change of one makes of what is seen.
-use Rattle.std.proofs.Common.{◌≡◌, ℕ, ℤ, zero, suc, ◌+◌, ◌<◌, ◌≤◌, Bool, true, false, cond, List, [], ◌∷◌, length, get_or, refl, sym, ap, ◌∙◌, arith, subst, length-set, Some, None, ⊎_elim}
+use Rattle.std.proofs.Common.{◌≡◌, ℕ, ℤ, zero, suc, ◌+◌, ◌^◌, ◌<◌, ◌≤◌, Bool, true, false, cond, List, [], ◌∷◌, length, get_or, refl, sym, ap, ◌∙◌, arith, subst, length-set, Some, None, ⊎_elim}
 use Rattle.std.specs.Prelude.{◌&&◌, ◌||◌, ◌==◌, nat_lt, map, replicate, is_some, slice_get, slice_set, slice_index_or}
 use Rattle.std.specs.List.{AllByRecursion, count_by, insert, list_all, list_any, remove}
 use Rattle.std.specs.declared.option.Option.{Option}
@@ -283,11 +283,24 @@ only-counted (Some x ∷ xs) (suc s) t used few other =
     let never : false ≡ true = sym (ap is_some gone) ∙ used in
     absurd cc
 
-pub placed-shape : (size : ℕ) (widths : List ℕ) (slot : ℕ) (used : UsedSlot) (x : Part) → slot < length x.slots.slots → HasShape size widths x → HasShape size widths (with_content slot (Some used) x)
-placed-shape size widths slot used x within shape = record {
+-- what slots hold has these widths, where what is put there has them and what was there had them
+fits-set : (widths : List ℕ) (xs : List (Option UsedSlot)) (s : ℕ) (o : Option UsedSlot) → s < length xs → ((u : UsedSlot) → o ≡ Some u → map length u.vectors ≡ widths) →
+    ((t : ℕ) (u : UsedSlot) → slice_index_or xs t None ≡ Some u → map length u.vectors ≡ widths) → (t : ℕ) (u : UsedSlot) → slice_index_or (slice_set xs s o) t None ≡ Some u → map length u.vectors ≡ widths
+fits-set widths xs s o within new old t u is = by_slot (t == s) refl where
+  by_slot : (b : Bool) → (t == s) ≡ b → map length u.vectors ≡ widths
+  by_slot true e = new u (sym (ap (λ v. slice_index_or (slice_set xs s o) v None) (number_same t s e) ∙ get_or-set_same xs s o None within) ∙ is)
+  by_slot false e = old t u (sym (get_or-set_other xs s t o None (number_other t s e)) ∙ is)
+
+only_fits : (widths : List ℕ) (used : UsedSlot) → map length used.vectors ≡ widths → (u : UsedSlot) → Some used ≡ Some u → map length u.vectors ≡ widths
+only_fits widths used fits u same = let u_is : used ≡ u = cc in ap (λ v. map length v.vectors) (sym u_is) ∙ fits
+
+pub placed-shape : (size : ℕ) (widths : List ℕ) (slot : ℕ) (used : UsedSlot) (x : Part) → slot < length x.slots.slots → map length used.vectors ≡ x.slots.widths → HasShape size widths x → HasShape size widths (with_content slot (Some used) x)
+placed-shape size widths slot used x within fits shape = record {
   long = length-set x.slots.slots slot (Some used) ∙ shape.long;
   wide = shape.wide;
   filled = any-set x.slots.slots slot used within;
+  vectors = fits-set widths x.slots.slots slot (Some used) within (only_fits widths used (fits ∙ shape.wide)) shape.vectors;
+  narrow = shape.narrow;
 }
 
 pub dropped-shape : (size : ℕ) (widths : List ℕ) (slot : ℕ) (x : Part) → slot < length x.slots.slots → 1 < count_by is_some x.slots.slots → HasShape size widths x → HasShape size widths (with_content slot None x)
@@ -295,6 +308,8 @@ dropped-shape size widths slot x within many shape = record {
   long = length-set x.slots.slots slot None ∙ shape.long;
   wide = shape.wide;
   filled = any-left x.slots.slots slot within many;
+  vectors = fits-set widths x.slots.slots slot None within (λ u never. absurd cc) shape.vectors;
+  narrow = shape.narrow;
 }
 
 -- ---- what is seen
@@ -356,13 +371,15 @@ module _ (parts : List Part) (at slot size : ℕ) (widths : List ℕ) (used : Us
       there : number_at parts k ≡ number → ⊥
       there e = let never : None ≡ Some (get_or parts k fresh) = sym new ∙ part_of-at parts number k fresh rise lt e in absurd cc
 
-  pub added-shapes : ArePartsOf size widths parts → ArePartsOf size widths (insert parts at fresh)
-  added-shapes are = record {
+  pub added-shapes : map length used.vectors ≡ widths → number < 2 ^ 32 → ArePartsOf size widths parts → ArePartsOf size widths (insert parts at fresh)
+  added-shapes fits narrow are = record {
     rise = rise-inserted fresh parts at le front strictly are.rise;
     shaped = all-inserted (HasShape size widths) fresh at parts le (record {
       long = length-set (replicate {A = Option UsedSlot} size None) slot (Some used) ∙ length-replicate {A = Option UsedSlot} size None;
       wide = refl;
       filled = any-set (replicate {A = Option UsedSlot} size None) slot used in_range;
+      vectors = fits-set widths (replicate {A = Option UsedSlot} size None) slot (Some used) in_range (only_fits widths used fits) (λ t u is. let never : None ≡ Some u = sym (free_slots t) ∙ is in absurd cc);
+      narrow = narrow;
     }) are.shaped;
   }
 
@@ -431,7 +448,7 @@ pub filled_at : (parts new : List Part) (at slot : ℕ) (rowid : ℤ) (vectors :
 filled_at parts new at slot rowid vectors lt rise fits is =
     let p = part_at parts at lt in
     let can = fits p.0 p.1.0 in
-    let shape = λ (size : ℕ) (widths : List ℕ) (h : HasShape size widths p.0). placed-shape size widths slot (record { rowid = rowid; vectors = vectors }) p.0 can.within h in
+    let shape = λ (size : ℕ) (widths : List ℕ) (h : HasShape size widths p.0). placed-shape size widths slot (record { rowid = rowid; vectors = vectors }) p.0 can.within can.fits h in
     rw (is, p.1.1) (changed-at parts at slot p.0 (used_by rowid vectors) rise p.1.0 can.within shape, edited-shapes parts at slot p.0 (used_by rowid vectors) rise p.1.0 can.within shape)
 
 pub freed_at : (parts new : List Part) (at slot : ℕ) → at < length parts → numbers_rise parts ≡ true → HoldsAt (λ part. is_some (slot_at part.slots slot) ≡ true) at parts → HoldsAt (λ part. 1 < count_by is_some part.slots.slots) at parts →
@@ -450,7 +467,7 @@ left_at parts new at slot lt rise used few is =
 
 -- ---- the part that a search finds
 
-part_of-number : (parts : List Part) (c : ℕ) (x : Part) → part_of parts c ≡ Some x → x.number ≡ c
+pub part_of-number : (parts : List Part) (c : ℕ) (x : Part) → part_of parts c ≡ Some x → x.number ≡ c
 part_of-number [] c x is = absurd cc
 part_of-number (y ∷ ys) c x is = by_test (y.number == c) refl is (λ later. part_of-number ys c x later) where
   by_test : (t : Bool) → (y.number == c) ≡ t → cond t (Some y) (part_of ys c) ≡ Some x → (part_of ys c ≡ Some x → x.number ≡ c) → x.number ≡ c

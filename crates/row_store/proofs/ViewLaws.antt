@@ -180,7 +180,7 @@ module _ (parts : List Part) (places : PlaceMap) (entries : List Entry) (claim :
 
 -- ---- the places of the rows
 
-at-used : (places : PlaceMap) (c s : ℕ) → is_used places c s ≡ true → (values : List Value) × ((partition_at places c s ≡ Some values) × (partition_of_chunk places c ≡ Some values))
+pub at-used : (places : PlaceMap) (c s : ℕ) → is_used places c s ≡ true → (values : List Value) × ((partition_at places c s ≡ Some values) × (partition_of_chunk places c ≡ Some values))
 at-used places c s used = by_chunk (chunk_with places.chunks c) used where
   by_chunk : (o : Option Chunk) → is_some (partition_in_slot o s) ≡ true → (values : List Value) × ((partition_in_slot o s ≡ Some values) × (partition_in o ≡ Some values))
   by_chunk None h = absurd cc
@@ -189,12 +189,12 @@ at-used places c s used = by_chunk (chunk_with places.chunks c) used where
     by_slot true h = (x.partition, (refl, refl))
     by_slot false h = absurd cc
 
-none_is : {A : Type 0} (o : Option A) → is_some o ≡ false → o ≡ None
+pub none_is : {A : Type 0} (o : Option A) → is_some o ≡ false → o ≡ None
 none_is None h = refl
 none_is (Some x) h = absurd cc
 
 -- where one test holds of what another finds, it finds something too
-find-weaker : {R : Type 0} (test weaker : R → Bool) (rs : List R) (r : R) → ((x : R) → test x ≡ true → weaker x ≡ true) → find test rs ≡ Some r → is_some (find weaker rs) ≡ true
+pub find-weaker : {R : Type 0} (test weaker : R → Bool) (rs : List R) (r : R) → ((x : R) → test x ≡ true → weaker x ≡ true) → find test rs ≡ Some r → is_some (find weaker rs) ≡ true
 find-weaker test weaker [] r implies is = absurd cc
 find-weaker {R} test weaker (x ∷ xs) r implies is = by_weaker (weaker x) refl (λ later. find-weaker test weaker xs r implies later) where
   by_weaker : (t : Bool) → weaker x ≡ t → (find test xs ≡ Some r → is_some (find weaker xs) ≡ true) → is_some (cond t (Some x) (find weaker xs)) ≡ true

@@ -6,10 +6,12 @@ mod part;
 mod parts;
 mod place;
 mod put;
+mod readers;
 mod remove;
 mod rows;
 mod store;
 mod touched;
 
 pub use place::RowPlace;
+pub use readers::RowRef;
 pub use store::RowStore;
