@@ -1,9 +1,8 @@
-use Rattle.std.proofs.Common.{◌≡◌, ℕ, ◌<◌, ap, ◌∙◌, sym, arith}
+use Rattle.std.proofs.Common.{◌≡◌, ap, ◌∙◌, arith}
 use Rattle.std.specs.List.{insert}
 use Rattle.std.specs.Prelude.{Some}
 use Rattle.chunk_slots.specs.Slots.{UsedSlot, all_free, vectors_of}
-use Rattle.row_store.specs.declared.part.Part.{Part}
-use Rattle.row_store.specs.inner.Parts.{number_at, with_content, IsChangedAt, ArePartsOf}
+use Rattle.row_store.specs.inner.Parts.{with_content}
 use Rattle.row_store.proofs.PartLaws.{added-at, added-shapes}
 use Rattle.row_store.proofs.parts.add_part.Goals as goal
 
