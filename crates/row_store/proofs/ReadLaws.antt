@@ -1,30 +1,30 @@
 -- What is read of the rows of a store: the next one, the one of an id or a rowid, and those of a chunk.
 use Rattle.std.proofs.Common.{◌≡◌, ℕ, ℤ, zero, suc, ◌<◌, ◌^◌, int_lt, Bool, true, false, not, cond, List, [], ◌∷◌, length, refl, sym, ap, ◌∙◌, arith, subst, Some, None, Bor}
-use Rattle.std.specs.Prelude.{map, ◌&&◌, ◌||◌, ◌==◌, is_some, bytes_eq, slice_index_or, MatchOption, IfSome, option_copied}
-use Rattle.std.specs.List.{AllByRecursion, AllPairs, filter_map, find, list_all, list_any, cons_option}
-use Rattle.std.specs.Option.{option_map, option_and_then, is_none}
+use Rattle.std.specs.Prelude.{map, ◌==◌, is_some, bytes_eq, slice_index_or, MatchOption, IfSome, option_copied}
+use Rattle.std.specs.List.{AllByRecursion, AllPairs, find, list_any, cons_option}
+use Rattle.std.specs.Option.{option_map, option_and_then}
 use Rattle.std.specs.Ordering.{int_eq}
 use Rattle.std.specs.declared.option.Option.{Option}
-use Rattle.std.proofs.lemmas.Bool.{and_parts, cond-true, cond-false}
+use Rattle.std.proofs.lemmas.Bool.{and_parts, cond-false}
 use Rattle.std.proofs.lemmas.Int.{ints}
 use Rattle.std.proofs.lemmas.Slice.Eq.{bytes_eq-Decides}
 use Rattle.vec_base.specs.declared.value.Value.{Value}
 use Rattle.chunk_slots.specs.Slots.{Slots, UsedSlot, slot_at, vectors_in}
 use Rattle.row_index.specs.Entries.{entry_of, is_rising, next_after, is_behind, has_id, is_text, is_same_id, have_own_ids, place_of, id_of, rowid_of as rowid_with}
 use Rattle.row_index.specs.declared.entry.Entry.{Entry}
-use Rattle.slot_alloc.specs.Places.{PlaceMap, IsPlaceMap, partition_of_chunk, is_used, has_chunk}
-use Rattle.row_store.specs.Keyed.{keys_rise, keyed_by}
+use Rattle.slot_alloc.specs.Places.{PlaceMap, IsPlaceMap, partition_of_chunk, is_used}
+use Rattle.row_store.specs.Keyed.{keys_rise}
 use Rattle.row_store.specs.Shown.{held_of}
 use Rattle.row_store.specs.StoredRows.{StoredRow, rowid_of, row_of, row_at, first_in, lies_at, row_with_id, has_text, next_row, is_above}
 use Rattle.row_store.specs.declared.part.Part.{Part}
 use Rattle.row_store.specs.declared.place.RowPlace.{RowPlace}
 use Rattle.row_store.specs.inner.Parts.{part_of, slots_of, seen_at, seen_in, HasShape, ArePartsOf}
-use Rattle.row_store.specs.inner.Views.{row_in, row_from, rows_of, is_claimed, is_claimed_rowid, AreTied, values_or_none}
+use Rattle.row_store.specs.inner.Views.{row_from, rows_of, is_claimed_rowid, AreTied, values_or_none}
 use Rattle.row_store.proofs.PartLaws.{part_of-number}
-use Rattle.row_store.proofs.PickLaws.{KeepsKeys, picked-keyed, picked-rise}
-use Rattle.row_store.proofs.SearchLaws.{IsSameTest, find-picked_nowhere, find-picked_first, find-picked_above, found-keyed, found-test, found-all, mapped-some, mapped-none, any-none, pairs-by_key}
-use Rattle.row_store.proofs.TieLaws.{entry_rowid, keeps, entries_rise, entry-rowid, eq_from, eq_to, some_is, number_is, chunk_used}
-use Rattle.row_store.proofs.ViewLaws.{IsRowOf, row-told, row_of-entry, IsSeenRow, seen-row, row_at-none, row_at-seen, all-picked, found-such, find-weaker, none_is, at-used}
+use Rattle.row_store.proofs.PickLaws.{picked-rise}
+use Rattle.row_store.proofs.SearchLaws.{IsSameTest, find-picked_nowhere, find-picked_first, find-picked_above, found-keyed, found-test, mapped-some, mapped-none, any-none, pairs-by_key}
+use Rattle.row_store.proofs.TieLaws.{entry_rowid, keeps, entries_rise, entry-rowid, eq_from, some_is, number_is, chunk_used}
+use Rattle.row_store.proofs.ViewLaws.{IsRowOf, row-told, row_of-entry, seen-row, row_at-none, row_at-seen, all-picked, found-such, find-weaker, none_is, at-used}
 
 lt_not_same : (a b : ℤ) → int_lt a b ≡ true → int_eq a b ≡ false
 lt_not_same a b h = grind (arith, ints)
@@ -53,15 +53,18 @@ own_id parts places id (x ∷ xs) e own is none = by_test (has_id id x) refl is 
     not_true : (b : Bool) → not b ≡ true → b ≡ false
     not_true false h = refl
     not_true true h = absurd cc
+
     by_id : (o : Option (List ℕ)) → x.id ≡ o → not (list_any (is_same_id o) xs) ≡ true → find (has_id id) xs ≡ None
     by_id None at others = let never : false ≡ true = ap (is_text id) (sym at) ∙ h in absurd cc
     by_id (Some text) at others =
         let equal : bytes_eq text id ≡ true = ap (is_text id) (sym at) ∙ h in
         let same : text ≡ id = (bytes_eq-Decides text id).0 equal in
         any-none (has_id id) xs (ap (λ t. list_any (has_id t) xs) (sym same) ∙ not_true _ others)
+
   by_pick : has_id id x ≡ false → row_with_id id (rows_of parts places xs) ≡ None → (o : Option StoredRow) → row_from parts places x ≡ o → find (λ r. has_text id r.id) (cons_option o (rows_of parts places xs)) ≡ None
   by_pick f rest None at = rest
   by_pick f rest (Some r) at = cond-false _ _ _ (text_same parts places id x r at ∙ f) ∙ rest
+
   by_test : (b : Bool) → has_id id x ≡ b → cond b (Some x) (find (has_id id) xs) ≡ Some e → (find (has_id id) xs ≡ Some e → row_with_id id (rows_of parts places xs) ≡ None) → row_with_id id (rows_of parts places (x ∷ xs)) ≡ None
   by_test true h same rest =
       let x_is : x ≡ e = cc in
@@ -79,7 +82,6 @@ row_made i c s id values vectors = record { rowid = i; chunk = c; slot = s; id =
 
 module _ (parts : List Part) (places : PlaceMap) (entries : List Entry) (claim : Option RowPlace)
     (tied : AreTied parts places entries claim) (rise : is_rising entries ≡ true) where
-
   -- the entry of a claim has no row
   claim-none : (i : ℤ) (e : Entry) → entry_of i entries ≡ Some e → is_claimed_rowid claim i ≡ true → row_from parts places e ≡ None
   claim-none i e there own = by_row (row_from parts places e) refl where
@@ -109,12 +111,14 @@ module _ (parts : List Part) (places : PlaceMap) (entries : List Entry) (claim :
   next-claimed after i is own = by_after after is where
     gone : (e : Entry) → entry_of i entries ≡ Some e → row_from parts places e ≡ None
     gone e there = claim-none i e there own
+
     skipped : (t : ℤ → Bool) → ((a b : ℤ) → int_lt a b ≡ true → t a ≡ true → t b ≡ true) → (m : (e : Entry) × ((find (λ e. t e.rowid) entries ≡ Some e) × (e.rowid ≡ i))) →
         find (λ r. t r.rowid) (rows_of parts places entries) ≡ next_row (Some i) (rows_of parts places entries)
     skipped t up m =
         let there : entry_of i entries ≡ Some m.0 = ap (λ j. entry_of j entries) (sym m.1.1) ∙ found-keyed entry_rowid (λ e. t e.rowid) entries m.0 (entries_rise entries rise) m.1.0 in
         find-picked_above entry_rowid rowid_of (row_from parts places) t entries m.0 (keeps parts places) (entries_rise entries rise) up m.1.0 (gone m.0 there)
         ∙ ap (λ j. next_row (Some j) (rows_of parts places entries)) m.1.1
+
     by_after : (o : Option ℤ) → next_after o entries ≡ Some i → next_row o (rows_of parts places entries) ≡ next_row (Some i) (rows_of parts places entries)
     by_after None found = skipped (λ j. true) (λ a b lt h. refl) (mapped-some (λ e. e.rowid) _ i found)
     by_after (Some after) found = skipped (int_lt after) (λ a b lt h. lt_on after a b lt h) (mapped-some (λ e. e.rowid) _ i found)
@@ -127,6 +131,7 @@ module _ (parts : List Part) (places : PlaceMap) (entries : List Entry) (claim :
     other (Some place) j lt h = apart place.rowid i j lt h where
       apart : (a b d : ℤ) → int_lt b d ≡ true → int_eq a b ≡ true → int_eq a d ≡ false
       apart a b d lt h = grind (arith, ints)
+
     by_next : (o : Option ℤ) → next_after (Some i) entries ≡ o → o ≡ option_map rowid_of (next_row (Some i) (rows_of parts places entries))
     by_next None is = sym (ap (option_map rowid_of) (next-nowhere (Some i) is))
     by_next (Some j) is =
@@ -188,15 +193,18 @@ module _ (parts : List Part) (places : PlaceMap) (entries : List Entry) (claim :
       let id_is : id_of i entries ≡ e.id = ap (option_and_then (λ x. x.id)) m.1.0 in
       let values_is : values_or_none (partition_of_chunk places e.chunk) ≡ u.0 = ap (λ d. values_or_none (partition_of_chunk places d)) c_is ∙ ap values_or_none u.1.1 in
       record {
-        row = r.0; used = told.used; values = u.0;
+        row = r.0;
+        used = told.used;
+        values = u.0;
         given = row_of-entry parts places entries claim tied rise i ∙ ap (option_and_then (row_from parts places)) m.1.0 ∙ r.1;
-        seen = seen; valued = u.1.1;
-        is = told.is ∙ made e.rowid i e.chunk c e.slot s e.id (id_of i entries) (values_or_none (partition_of_chunk places e.chunk)) u.0 told.used.vectors i_is c_is s_is (sym id_is) values_is;
+        seen = seen;
+        valued = u.1.1;
+        is = made r.0 e.rowid i e.chunk c e.slot s e.id (id_of i entries) (values_or_none (partition_of_chunk places e.chunk)) u.0 told.used.vectors told.is i_is c_is s_is (sym id_is) values_is;
       }
     where
-      made : (a b : ℤ) (d e f g : ℕ) (h j : Option (List ℕ)) (v w : List Value) (x : List (List ℕ)) → a ≡ b → d ≡ e → f ≡ g → h ≡ j → v ≡ w →
-          row_made a d f h v x ≡ row_made b e g j w x
-      made a b d e f g h j v w x p q r s t = rw (p, q, r, s, t) refl
+      made : (row : StoredRow) (a b : ℤ) (d e f g : ℕ) (h j : Option (List ℕ)) (v w : List Value) (x : List (List ℕ)) → row ≡ row_made a d f h v x → a ≡ b → d ≡ e → f ≡ g → h ≡ j → v ≡ w →
+          row ≡ row_made b e g j w x
+      made row a b d e f g h j v w x is p q r s t = is ∙ rw (p, q, r, s, t) refl
 
   -- ---- chunks
 
@@ -220,7 +228,10 @@ module _ (parts : List Part) (places : PlaceMap) (entries : List Entry) (claim :
         let taken = tied.placed r.chunk r.slot (ap is_some at) in
         let u = at-used places r.chunk r.slot taken in
         record {
-          used = told.used; seen = at; own = told.own ∙ sym (ap (λ z. z.rowid) told.is); vectors = ap (λ z. z.vectors) told.is;
+          used = told.used;
+          seen = at;
+          own = told.own ∙ sym (ap (λ z. z.rowid) told.is);
+          vectors = ap (λ z. z.vectors) told.is;
           valued = u.1.1 ∙ ap Some (sym (p_is ∙ ap (λ d. values_or_none (partition_of_chunk places d)) (sym c_is) ∙ ap values_or_none u.1.1));
           taken = taken;
         }
@@ -317,7 +328,6 @@ slots-shape size widths parts c slots are is =
 
 module _ (parts : List Part) (places : PlaceMap) (entries : List Entry) (claim : Option RowPlace) (size : ℕ) (widths : List ℕ)
     (tied : AreTied parts places entries claim) (rise : is_rising entries ≡ true) (are : ArePartsOf size widths parts) where
-
   -- a chunk is there just where it has a row
   pub part-first : (c : ℕ) → is_some (part_of parts c) ≡ is_some (first_in (rows_of parts places entries) c)
   part-first c = by_part (part_of parts c) refl where
@@ -393,7 +403,6 @@ lt_self a b e h = let same : int_lt b b ≡ true = ap (λ z. int_lt z b) (sym e)
 
 module _ (parts : List Part) (places : PlaceMap) (entries : List Entry) (claim : Option RowPlace) (size : ℕ) (widths : List ℕ)
     (tied : AreTied parts places entries claim) (rise : is_rising entries ≡ true) (are : ArePartsOf size widths parts) (known : IsPlaceMap places) (sized : places.size ≡ size) where
-
   rows-rise : keys_rise rowid_of (rows_of parts places entries) ≡ true
   rows-rise = picked-rise entry_rowid rowid_of (row_from parts places) entries (keeps parts places) (entries_rise entries rise)
 

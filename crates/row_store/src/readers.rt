@@ -3,12 +3,11 @@ ghost use Rattle.std.specs.Prelude.{◌≡◌, ℕ, ◌<◌, ◌^◌, true, [], 
 ghost use Rattle.std.specs.List.{AllByRecursion, AllPairs};
 ghost use Rattle.std.specs.Option.{option_copied, option_map};
 ghost use Rattle.chunk_slots.specs.Slots.{slot_at};
-ghost use Rattle.slot_alloc.specs.Places.{IsChunkSize, IsPlaceMap};
 ghost use Rattle.row_store.specs.Keyed.{keys_rise};
 ghost use Rattle.row_store.specs.StoredRows.{rowid_of, row_of, row_at, first_in, row_with_id, next_row};
 ghost use Rattle.row_store.specs.Touches.{Follows};
 ghost use Rattle.row_store.specs.Shown.{shown, held_of};
-ghost use Rattle.row_store.specs.inner.Parts.{numbers_rise, slots_of, ArePartsOf};
+ghost use Rattle.row_store.specs.inner.Parts.{numbers_rise, slots_of};
 ghost use Rattle.row_store.specs.inner.Views.{is_claimed_rowid, seen_rows, AreTied};
 
 use crate::parts;

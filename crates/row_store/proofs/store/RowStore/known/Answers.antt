@@ -1,4 +1,4 @@
-use Rattle.std.proofs.Common.{◌≡◌, subst}
+use Rattle.std.proofs.Common.{subst}
 use Rattle.row_store.proofs.ReadLaws.{AreRows, rows-known}
 use Rattle.row_store.proofs.store.RowStore.known.Goals as goal
 
