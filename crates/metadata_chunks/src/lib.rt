@@ -4,6 +4,9 @@
 mod bool_column;
 mod cells;
 mod int_column;
+mod text_cell;
+mod text_column;
 
 pub use bool_column::BoolColumn;
 pub use int_column::IntColumn;
+pub use text_column::TextColumn;
