@@ -4,7 +4,7 @@ use Rattle.std.specs.List.{position_from}
 use Rattle.std.proofs.lemmas.List.{length-drop, get_or-drop}
 use Rattle.chunk_bitmap.specs.BitsOfBytes.{next_set_of}
 use Rattle.metadata_chunks.specs.Columns.{kept}
-use Rattle.metadata_chunks.specs.inner.Filtering.{kept_until}
+use Rattle.metadata_chunks.specs.inner.Filtering.{kept_until, GoesOn}
 
 -- a place that is found from one on: it is set, and those before it are clear
 pub record IsNext (from : ℕ) (bits : List Bool) (slot : ℕ) : Type 0 where
@@ -41,6 +41,9 @@ none_left from (false ∷ bits) is (suc j) = none_left (from + 1) bits is j
 
 pub behind : (from slot : ℕ) (bits : List Bool) → next_set_of from bits ≡ Some slot → from ≤ slot
 behind from slot bits is = (found from (drop from bits) slot is).behind
+
+pub slot_within : {A : Type 0} (from slot : ℕ) (values : List A) (bits : List Bool) → from ≤ length values → length bits ≡ length values → next_set_of from bits ≡ Some slot → slot < length values
+slot_within from slot values bits le same is = omega (arith, (found from (drop from bits) slot is).within, length-drop from bits, le, same)
 
 set_again : (bits : List Bool) (i : ℕ) → get_or bits i false ≡ true → set bits i true ≡ bits
 set_again [] i there = refl
@@ -96,51 +99,45 @@ module _ {A : Type 0} (test : A → Bool) where
   all_until (suc k) (value ∷ values) [] same n = refl
   all_until (suc k) (value ∷ values) (bit ∷ bits) same n = ap (λ bs. (bit && test value) ∷ bs) (all_until k values bits (omega (arith, same)) (omega (arith, n)))
 
-  -- the next set bit, and the slot up to which the bits are kept by then
-  pub next_until : (n slot : ℕ) (values : List A) (bits : List Bool) → length bits ≡ length values → next_set_of n (kept_until n test values bits) ≡ Some slot → IsNext n (drop n bits) slot
-  next_until n slot values bits same is = found n (drop n bits) slot (ap (position_from (λ bit. bit) n) (sym (rest_until n values bits same)) ∙ is)
+  -- what is known where no bit is set from a place on
+  pub until_end : (n : ℕ) (values : List A) (bits keep : List Bool) → length bits ≡ length values → n ≤ length values → keep ≡ kept_until n test values bits → next_set_of n keep ≡ None → keep ≡ kept test values bits
+  until_end n values bits keep same le is none =
+      let clear = none_left n (drop n bits) (ap (position_from (λ bit. bit) n) (sym (rest_until n values bits same) ∙ ap (drop n) (sym is)) ∙ none) in
+      is ∙ sym (skipped n (length bits) values bits same (omega (arith, le, same)) (λ j lt. clear j)) ∙ all_until (length bits) values bits same refl
 
-  pub within_until : (n slot : ℕ) (values : List A) (bits : List Bool) → length bits ≡ length values → n ≤ length values → next_set_of n (kept_until n test values bits) ≡ Some slot → slot < length values
-  within_until n slot values bits same le is =
-      let next = next_until n slot values bits same is in
-      omega (arith, next.within, length-drop n bits, same, le)
+  -- up to the next set bit
+  pub until_next : (n slot : ℕ) (values : List A) (bits keep : List Bool) → length bits ≡ length values → keep ≡ kept_until n test values bits → next_set_of n keep ≡ Some slot → keep ≡ kept_until slot test values bits
+  until_next n slot values bits keep same is next =
+      let at = found n (drop n bits) slot (ap (position_from (λ bit. bit) n) (sym (rest_until n values bits same) ∙ ap (drop n) (sym is)) ∙ next) in
+      is ∙ sym (skipped n slot values bits same at.behind at.clear)
 
-  -- up to one set bit more
-  pub until_more : (n slot : ℕ) (value : A) (values : List A) (bits : List Bool) → length bits ≡ length values → n ≤ length values → next_set_of n (kept_until n test values bits) ≡ Some slot →
-      value ≡ get_or values slot value → kept_until (slot + 1) test values bits ≡ set (kept_until n test values bits) slot (test value)
-  until_more n slot value values bits same le is there =
-      let next = next_until n slot values bits same is in
-      let at : n + (slot - n) ≡ slot = omega (arith, next.behind) in
-      let set_there : get_or bits slot false ≡ true = ap (λ k. get_or bits k false) (sym at) ∙ sym (get_or-drop n bits (slot - n) false) ∙ next.there in
-      let more : slot + 1 ≡ suc slot = omega arith in
-      ap (λ k. kept_until k test values bits) more
-      ∙ looked_at slot value values bits same (within_until n slot values bits same le is) there set_there
-      ∙ ap (λ bs. set bs slot (test value)) (skipped n slot values bits same next.behind next.clear)
+  -- the bit of a slot is as at first
+  bit_until : (n : ℕ) (values : List A) (bits keep : List Bool) → length bits ≡ length values → keep ≡ kept_until n test values bits → get_or bits n false ≡ get_or keep n false
+  bit_until n values bits keep same is =
+      let here : n + 0 ≡ n = omega arith in
+      ap (λ k. get_or bits k false) (sym here)
+      ∙ sym (get_or-drop n bits 0 false)
+      ∙ ap (λ bs. get_or bs 0 false) (sym (rest_until n values bits same) ∙ ap (drop n) (sym is))
+      ∙ get_or-drop n keep 0 false
+      ∙ ap (λ k. get_or keep k false) here
 
-  -- no bit is set from a place on
-  pub until_end : (n : ℕ) (values : List A) (bits : List Bool) → length bits ≡ length values → n ≤ length values → next_set_of n (kept_until n test values bits) ≡ None →
-      kept_until n test values bits ≡ kept test values bits
-  until_end n values bits same le is =
-      let clear = none_left n (drop n bits) (ap (position_from (λ bit. bit) n) (sym (rest_until n values bits same)) ∙ is) in
-      sym (skipped n (length bits) values bits same (omega (arith, le, same)) (λ j lt. clear j)) ∙ all_until (length bits) values bits same refl
+  -- one slot more
+  pub one_clear : (n : ℕ) (values : List A) (keep : List Bool) → get_or keep n false ≡ false → GoesOn test values n keep (n + 1) keep
+  one_clear n values keep clear bits same is =
+      let first : get_or (drop n bits) 0 false ≡ false =
+      get_or-drop n bits 0 false ∙ ap (λ k. get_or bits k false) (let e : n + 0 ≡ n = omega arith in e) ∙ bit_until n values bits keep same is ∙ clear in
+      is ∙ sym (skipped n (n + 1) values bits same (omega arith) (λ j lt. ap (λ k. get_or (drop n bits) k false) (let e : j ≡ 0 = omega (arith, lt) in e) ∙ first))
 
-  -- the set bit stays where the value passes, and is cleared where it does not
-  pub until_stays : (n slot : ℕ) (value : A) (values : List A) (bits keep : List Bool) → length bits ≡ length values → n ≤ length values → keep ≡ kept_until n test values bits → next_set_of n keep ≡ Some slot →
-      value ≡ get_or values slot value → test value ≡ true → keep ≡ kept_until (slot + 1) test values bits
-  until_stays n slot value values bits keep same le is next there passes =
-      let next_is = ap (next_set_of n) (sym is) ∙ next in
-      let at_slot = found n (drop n keep) slot next in
-      let at : n + (slot - n) ≡ slot = omega (arith, at_slot.behind) in
-      let set_there : get_or keep slot false ≡ true = ap (λ k. get_or keep k false) (sym at) ∙ sym (get_or-drop n keep (slot - n) false) ∙ at_slot.there in
-      sym (until_more n slot value values bits same le next_is there ∙ ap (λ b. set (kept_until n test values bits) slot b) passes ∙ ap (λ bs. set bs slot true) (sym is) ∙ set_again keep slot set_there)
+  one_set : (n : ℕ) (value : A) (values : List A) (bits keep : List Bool) → length bits ≡ length values → keep ≡ kept_until n test values bits → n < length values → value ≡ get_or values n value → get_or keep n false ≡ true →
+      set keep n (test value) ≡ kept_until (n + 1) test values bits
+  one_set n value values bits keep same is lt at there =
+      let more : n + 1 ≡ suc n = omega arith in
+      sym (ap (λ k. kept_until k test values bits) more ∙ looked_at n value values bits same lt at (bit_until n values bits keep same is ∙ there) ∙ ap (λ bs. set bs n (test value)) (sym is))
 
-  pub until_goes : (n slot : ℕ) (value : A) (values : List A) (bits keep after : List Bool) → length bits ≡ length values → n ≤ length values → keep ≡ kept_until n test values bits → next_set_of n keep ≡ Some slot →
-      value ≡ get_or values slot value → test value ≡ false → after ≡ set keep slot false → after ≡ kept_until (slot + 1) test values bits
-  until_goes n slot value values bits keep after same le is next there fails now =
-      now ∙ sym (until_more n slot value values bits same le (ap (next_set_of n) (sym is) ∙ next) there ∙ ap (λ b. set (kept_until n test values bits) slot b) fails ∙ ap (λ bs. set bs slot false) (sym is))
+  pub one_stays : (n : ℕ) (value : A) (values : List A) (keep : List Bool) → n < length values → value ≡ get_or values n value → get_or keep n false ≡ true → test value ≡ true → GoesOn test values n keep (n + 1) keep
+  one_stays n value values keep lt at there passes bits same is =
+      sym (set_again keep n there) ∙ ap (set keep n) (sym passes) ∙ one_set n value values bits keep same is lt at there
 
-  pub slot_within : (n slot : ℕ) (values : List A) (bits keep : List Bool) → length bits ≡ length values → n ≤ length values → keep ≡ kept_until n test values bits → next_set_of n keep ≡ Some slot → slot < length values
-  slot_within n slot values bits keep same le is next = within_until n slot values bits same le (ap (next_set_of n) (sym is) ∙ next)
-
-  pub ended : (n : ℕ) (values : List A) (bits keep : List Bool) → length bits ≡ length values → n ≤ length values → keep ≡ kept_until n test values bits → next_set_of n keep ≡ None → keep ≡ kept test values bits
-  ended n values bits keep same le is none = is ∙ until_end n values bits same le (ap (next_set_of n) (sym is) ∙ none)
+  pub one_goes : (n : ℕ) (value : A) (values : List A) (keep after : List Bool) → n < length values → value ≡ get_or values n value → get_or keep n false ≡ true → test value ≡ false → after ≡ set keep n false → GoesOn test values n keep (n + 1) after
+  one_goes n value values keep after lt at there fails now bits same is =
+      now ∙ ap (set keep n) (sym fails) ∙ one_set n value values bits keep same is lt at there

@@ -5,6 +5,7 @@ use Rattle.metadata_chunks.proofs.cells.keep_passing.Given as goal
 abbrev pub invariant-loop-slot : goal.invariant-loop-slot
 invariant-loop-slot g l = record {
   within : l.from ≤ length l.cells;
+  size : length l.keep ≡ length l.cells;
   kept : l.keep ≡ kept_until l.from (g.C.Test.passed l.test) l.cells l.fn.keep;
 }
 
