@@ -39,10 +39,8 @@ fn keep_if_passing<T: Copied, C: Test<T>>(cells: &Leaves<T>, test: &C, keep: &mu
     ensures size { length keep.new ≡ length keep.old }
     ensures kept { GoesOn (C.passed test.now) cells.now slot keep.old (slot + 1) keep.new }
 {
-    if keep.get(slot) {
-        if !test.passes(cells.get(usize::from(slot))) {
-            keep.clear(slot);
-        }
+    if keep.get(slot) && !test.passes(cells.get(usize::from(slot))) {
+        keep.clear(slot);
     }
 }
 
