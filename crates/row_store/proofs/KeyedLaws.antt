@@ -1,10 +1,8 @@
 -- Lists by rising keys: what one element more or less leaves of what is found by a key or by a test.
-use Rattle.std.proofs.Common.{◌≡◌, ℤ, int_lt, Bool, true, false, not, cond, if◌then◌else◌, List, [], ◌∷◌, refl, sym, ap, ◌∙◌, Some, None}
+use Rattle.std.proofs.Common.{◌≡◌, ℤ, int_lt, Bool, true, false, cond, if◌then◌else◌, List, [], ◌∷◌, refl, sym, ap, ◌∙◌, Some, None}
 use Rattle.std.specs.List.{find}
 use Rattle.std.specs.Ordering.{int_eq}
-use Rattle.std.specs.declared.option.Option.{Option}
-use Rattle.std.proofs.lemmas.Bool.{and_parts, and_from}
-use Rattle.row_store.specs.Keyed.{keys_rise, with_keyed, without_key}
+use Rattle.row_store.specs.Keyed.{with_keyed, without_key}
 
 -- an element that a test does not hold of is not found by it
 pub found-with_other : {A : Type 0} (key : A → ℤ) (test : A → Bool) (new : A) (xs : List A) → test new ≡ false → find test (with_keyed key new xs) ≡ find test xs
@@ -21,6 +19,7 @@ found-with {A} key test new (x ∷ xs) is none = by_test (test x) refl none (λ 
   by_order : test x ≡ false → find test (with_keyed key new xs) ≡ Some new → (t : Bool) → find test (if t then new ∷ x ∷ xs else x ∷ with_keyed key new xs) ≡ Some new
   by_order out rest true = rw is refl
   by_order out rest false = rw out rest
+
   by_test : (t : Bool) → test x ≡ t → cond t (Some x) (find test xs) ≡ None → (find test xs ≡ None → find test (with_keyed key new xs) ≡ Some new) → find test (with_keyed key new (x ∷ xs)) ≡ Some new
   by_test true e n rest = absurd cc
   by_test false e n rest = by_order e (rest n) (int_lt (key new) (key x))
@@ -40,6 +39,7 @@ found-without {A} key test i (x ∷ xs) only = by_key (int_eq (key x) i) refl (f
   by_test : int_eq (key x) i ≡ false → find test (without_key key i xs) ≡ None → (t : Bool) → test x ≡ t → find test (without_key key i (x ∷ xs)) ≡ None
   by_test e rest true is = let never : true ≡ false = sym (only x is) ∙ e in absurd cc
   by_test e rest false is = rw (e, is) rest
+
   by_key : (t : Bool) → int_eq (key x) i ≡ t → find test (without_key key i xs) ≡ None → find test (without_key key i (x ∷ xs)) ≡ None
   by_key true e rest = rw e rest
   by_key false e rest = by_test e rest (test x) refl

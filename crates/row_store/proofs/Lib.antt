@@ -1,7 +1,11 @@
+mod FollowLaws
+mod FoundLaws
 mod KeyedLaws
 mod PartLaws
 mod PickLaws
 mod PlaceLaws
+mod PutLaws
+mod RemoveLaws
 mod ReadLaws
 mod SearchLaws
 mod TieLaws

@@ -1,5 +1,5 @@
 -- Parts by rising numbers: which one has a number, and what a change of one makes of what is seen.
-use Rattle.std.proofs.Common.{◌≡◌, ℕ, ℤ, zero, suc, ◌+◌, ◌<◌, ◌≤◌, Bool, true, false, cond, List, [], ◌∷◌, length, get_or, refl, sym, ap, ◌∙◌, arith, subst, length-set, Some, None, ⊎_elim}
+use Rattle.std.proofs.Common.{◌≡◌, ℕ, ℤ, zero, suc, ◌+◌, ◌^◌, ◌<◌, ◌≤◌, Bool, true, false, cond, List, [], ◌∷◌, length, get_or, refl, sym, ap, ◌∙◌, arith, subst, length-set, Some, None, ⊎_elim}
 use Rattle.std.specs.Prelude.{◌&&◌, ◌||◌, ◌==◌, nat_lt, map, replicate, is_some, slice_get, slice_set, slice_index_or}
 use Rattle.std.specs.List.{AllByRecursion, count_by, insert, list_all, list_any, remove}
 use Rattle.std.specs.declared.option.Option.{Option}
@@ -131,6 +131,7 @@ part_of-edited change (y ∷ ys) (suc at) x d same rise there =
   where
     before : (a b d : ℕ) → a < b → (b == d) ≡ true → (a == d) ≡ false
     before a b d lt h = grind arith
+
     by_test : (t u : Bool) → (y.number == d) ≡ t → (x.number == d) ≡ u → ((x.number == d) ≡ true → (y.number == d) ≡ false) → part_of (edited_at change at ys) d ≡ cond (x.number == d) (Some (change x)) (part_of ys d) →
         cond t (Some y) (part_of (edited_at change at ys) d) ≡ cond u (Some (change x)) (cond t (Some y) (part_of ys d))
     by_test true true e f apart rest = let never : true ≡ false = sym e ∙ apart f in absurd cc
@@ -171,8 +172,10 @@ part_of-inserted p (x ∷ xs) (suc at) d le new =
       by_first : (t : Bool) → (y.number == n) ≡ t → cond t (Some y) (part_of ys n) ≡ None → ((y.number == n) ≡ false) × (part_of ys n ≡ None)
       by_first true e h = absurd cc
       by_first false e h = (e, h)
+
     apart : (a b d : ℕ) → (a == b) ≡ false → (a == d) ≡ true → (b == d) ≡ true → true ≡ false
     apart a b d e f g = grind arith
+
     by_test : (t u : Bool) → (x.number == d) ≡ t → (p.number == d) ≡ u → part_of (insert xs at p) d ≡ cond (p.number == d) (Some p) (part_of xs d) →
         cond t (Some x) (part_of (insert xs at p) d) ≡ cond u (Some p) (cond t (Some x) (part_of xs d))
     by_test true true e f rest = let never = apart x.number p.number d (not_first x xs p.number new).0 e f in absurd cc
@@ -204,6 +207,7 @@ part_of-removed (y ∷ ys) zero x d rise there =
   where
     same : (a b : ℕ) → (a == b) ≡ true → a ≡ b
     same a b h = grind arith
+
     by_test : (t : Bool) → (y.number == d) ≡ t → part_of ys d ≡ cond t None (cond t (Some y) (part_of ys d))
     by_test true e = ap (part_of ys) (sym (same y.number d e)) ∙ none_above y.number ys (and_parts _ _ rise).0
     by_test false e = refl
@@ -213,6 +217,7 @@ part_of-removed (y ∷ ys) (suc at) x d rise there =
   where
     before : (a b d : ℕ) → a < b → (b == d) ≡ true → (a == d) ≡ false
     before a b d lt h = grind arith
+
     by_test : (t u : Bool) → (y.number == d) ≡ t → (x.number == d) ≡ u → ((x.number == d) ≡ true → (y.number == d) ≡ false) → part_of (remove ys at) d ≡ cond (x.number == d) None (part_of ys d) →
         cond t (Some y) (part_of (remove ys at) d) ≡ cond u None (cond t (Some y) (part_of ys d))
     by_test true true e f apart rest = let never : true ≡ false = sym e ∙ apart f in absurd cc
@@ -278,11 +283,24 @@ only-counted (Some x ∷ xs) (suc s) t used few other =
     let never : false ≡ true = sym (ap is_some gone) ∙ used in
     absurd cc
 
-pub placed-shape : (size : ℕ) (widths : List ℕ) (slot : ℕ) (used : UsedSlot) (x : Part) → slot < length x.slots.slots → HasShape size widths x → HasShape size widths (with_content slot (Some used) x)
-placed-shape size widths slot used x within shape = record {
+-- what slots hold has these widths, where what is put there has them and what was there had them
+fits-set : (widths : List ℕ) (xs : List (Option UsedSlot)) (s : ℕ) (o : Option UsedSlot) → s < length xs → ((u : UsedSlot) → o ≡ Some u → map length u.vectors ≡ widths) →
+    ((t : ℕ) (u : UsedSlot) → slice_index_or xs t None ≡ Some u → map length u.vectors ≡ widths) → (t : ℕ) (u : UsedSlot) → slice_index_or (slice_set xs s o) t None ≡ Some u → map length u.vectors ≡ widths
+fits-set widths xs s o within new old t u is = by_slot (t == s) refl where
+  by_slot : (b : Bool) → (t == s) ≡ b → map length u.vectors ≡ widths
+  by_slot true e = new u (sym (ap (λ v. slice_index_or (slice_set xs s o) v None) (number_same t s e) ∙ get_or-set_same xs s o None within) ∙ is)
+  by_slot false e = old t u (sym (get_or-set_other xs s t o None (number_other t s e)) ∙ is)
+
+only_fits : (widths : List ℕ) (used : UsedSlot) → map length used.vectors ≡ widths → (u : UsedSlot) → Some used ≡ Some u → map length u.vectors ≡ widths
+only_fits widths used fits u same = let u_is : used ≡ u = cc in ap (λ v. map length v.vectors) (sym u_is) ∙ fits
+
+pub placed-shape : (size : ℕ) (widths : List ℕ) (slot : ℕ) (used : UsedSlot) (x : Part) → slot < length x.slots.slots → map length used.vectors ≡ x.slots.widths → HasShape size widths x → HasShape size widths (with_content slot (Some used) x)
+placed-shape size widths slot used x within fits shape = record {
   long = length-set x.slots.slots slot (Some used) ∙ shape.long;
   wide = shape.wide;
   filled = any-set x.slots.slots slot used within;
+  vectors = fits-set widths x.slots.slots slot (Some used) within (only_fits widths used (fits ∙ shape.wide)) shape.vectors;
+  narrow = shape.narrow;
 }
 
 pub dropped-shape : (size : ℕ) (widths : List ℕ) (slot : ℕ) (x : Part) → slot < length x.slots.slots → 1 < count_by is_some x.slots.slots → HasShape size widths x → HasShape size widths (with_content slot None x)
@@ -290,6 +308,8 @@ dropped-shape size widths slot x within many shape = record {
   long = length-set x.slots.slots slot None ∙ shape.long;
   wide = shape.wide;
   filled = any-left x.slots.slots slot within many;
+  vectors = fits-set widths x.slots.slots slot None within (λ u never. absurd cc) shape.vectors;
+  narrow = shape.narrow;
 }
 
 -- ---- what is seen
@@ -297,7 +317,6 @@ dropped-shape size widths slot x within many shape = record {
 module _ (parts : List Part) (at slot : ℕ) (x : Part) (content : Option UsedSlot)
     (rise : numbers_rise parts ≡ true) (there : slice_get parts at ≡ Some x) (within : slot < length x.slots.slots)
     (shape : (size : ℕ) (widths : List ℕ) → HasShape size widths x → HasShape size widths (with_content slot content x)) where
-
   pub edited-shapes : KeepShapes parts (edited_at (with_content slot content) at parts)
   edited-shapes size widths are = record {
     rise = rise-edited (with_content slot content) parts at (λ y. refl) are.rise;
@@ -319,6 +338,7 @@ module _ (parts : List Part) (at slot : ℕ) (x : Part) (content : Option UsedSl
     by_slot : (t : ℕ) (b : Bool) → (t == slot) ≡ b → slice_index_or (slice_set x.slots.slots slot content) t None ≡ cond b content (slice_index_or x.slots.slots t None)
     by_slot t true e = ap (λ u. slice_index_or (slice_set x.slots.slots slot content) u None) (number_same t slot e) ∙ get_or-set_same x.slots.slots slot content None within
     by_slot t false e = get_or-set_other x.slots.slots slot t content None (number_other t slot e)
+
     by_part : (d t : ℕ) (b : Bool) → (x.number == d) ≡ b → seen_in (cond b (Some (with_content slot content x)) (part_of parts d)) t ≡ cond (d == x.number && t == slot) content (seen_at parts d t)
     by_part d t true e =
         let d_is : x.number ≡ d = number_same x.number d e in
@@ -331,7 +351,6 @@ module _ (parts : List Part) (at slot : ℕ) (x : Part) (content : Option UsedSl
 module _ (parts : List Part) (at slot size : ℕ) (widths : List ℕ) (used : UsedSlot) (number : ℕ)
     (le : at ≤ length parts) (front : (k : ℕ) → k < at → number_at parts k < number) (back : (k : ℕ) → at ≤ k → k < length parts → number ≤ number_at parts k)
     (new : part_of parts number ≡ None) (rise : numbers_rise parts ≡ true) (within : slot < size) where
-
   abbrev fresh : Part
   fresh = with_content slot (Some used) (record { number = number; slots = all_free size widths })
 
@@ -352,13 +371,15 @@ module _ (parts : List Part) (at slot size : ℕ) (widths : List ℕ) (used : Us
       there : number_at parts k ≡ number → ⊥
       there e = let never : None ≡ Some (get_or parts k fresh) = sym new ∙ part_of-at parts number k fresh rise lt e in absurd cc
 
-  pub added-shapes : ArePartsOf size widths parts → ArePartsOf size widths (insert parts at fresh)
-  added-shapes are = record {
+  pub added-shapes : map length used.vectors ≡ widths → number < 2 ^ 32 → ArePartsOf size widths parts → ArePartsOf size widths (insert parts at fresh)
+  added-shapes fits narrow are = record {
     rise = rise-inserted fresh parts at le front strictly are.rise;
     shaped = all-inserted (HasShape size widths) fresh at parts le (record {
       long = length-set (replicate {A = Option UsedSlot} size None) slot (Some used) ∙ length-replicate {A = Option UsedSlot} size None;
       wide = refl;
       filled = any-set (replicate {A = Option UsedSlot} size None) slot used in_range;
+      vectors = fits-set widths (replicate {A = Option UsedSlot} size None) slot (Some used) in_range (only_fits widths used fits) (λ t u is. let never : None ≡ Some u = sym (free_slots t) ∙ is in absurd cc);
+      narrow = narrow;
     }) are.shaped;
   }
 
@@ -369,6 +390,7 @@ module _ (parts : List Part) (at slot size : ℕ) (widths : List ℕ) (used : Us
     by_slot : (t : ℕ) (b : Bool) → (t == slot) ≡ b → slice_index_or (slice_set (replicate {A = Option UsedSlot} size None) slot (Some used)) t None ≡ cond b (Some used) None
     by_slot t true e = ap (λ u. slice_index_or (slice_set (replicate {A = Option UsedSlot} size None) slot (Some used)) u None) (number_same t slot e) ∙ get_or-set_same (replicate {A = Option UsedSlot} size None) slot (Some used) None in_range
     by_slot t false e = get_or-set_other (replicate {A = Option UsedSlot} size None) slot t (Some used) None (number_other t slot e) ∙ free_slots t
+
     by_part : (d t : ℕ) (b : Bool) → (number == d) ≡ b → seen_in (cond b (Some fresh) (part_of parts d)) t ≡ cond (d == number && t == slot) (Some used) (seen_at parts d t)
     by_part d t true e =
         let d_is : number ≡ d = number_same number d e in
@@ -382,7 +404,6 @@ module _ (parts : List Part) (at slot size : ℕ) (widths : List ℕ) (used : Us
 module _ (parts : List Part) (at slot : ℕ) (x : Part)
     (rise : numbers_rise parts ≡ true) (lt : at < length parts) (there : slice_get parts at ≡ Some x)
     (used : is_some (slot_at x.slots slot) ≡ true) (few : count_by is_some x.slots.slots ≤ 1) where
-
   pub removed-shapes : KeepShapes parts (remove parts at)
   removed-shapes size widths are = record { rise = rise-removed parts at lt are.rise; shaped = all-removed (HasShape size widths) at parts lt are.shaped }
 
@@ -393,6 +414,7 @@ module _ (parts : List Part) (at slot : ℕ) (x : Part)
     by_slot : (t : ℕ) (b : Bool) → (t == slot) ≡ b → None ≡ cond b None (slot_at x.slots t)
     by_slot t true e = refl
     by_slot t false e = sym (only-counted x.slots.slots slot t used few (number_other t slot e))
+
     by_part : (d t : ℕ) (b : Bool) → (x.number == d) ≡ b → seen_in (cond b None (part_of parts d)) t ≡ cond (d == x.number && t == slot) None (seen_at parts d t)
     by_part d t true e =
         let d_is : x.number ≡ d = number_same x.number d e in
@@ -426,7 +448,7 @@ pub filled_at : (parts new : List Part) (at slot : ℕ) (rowid : ℤ) (vectors :
 filled_at parts new at slot rowid vectors lt rise fits is =
     let p = part_at parts at lt in
     let can = fits p.0 p.1.0 in
-    let shape = λ (size : ℕ) (widths : List ℕ) (h : HasShape size widths p.0). placed-shape size widths slot (record { rowid = rowid; vectors = vectors }) p.0 can.within h in
+    let shape = λ (size : ℕ) (widths : List ℕ) (h : HasShape size widths p.0). placed-shape size widths slot (record { rowid = rowid; vectors = vectors }) p.0 can.within can.fits h in
     rw (is, p.1.1) (changed-at parts at slot p.0 (used_by rowid vectors) rise p.1.0 can.within shape, edited-shapes parts at slot p.0 (used_by rowid vectors) rise p.1.0 can.within shape)
 
 pub freed_at : (parts new : List Part) (at slot : ℕ) → at < length parts → numbers_rise parts ≡ true → HoldsAt (λ part. is_some (slot_at part.slots slot) ≡ true) at parts → HoldsAt (λ part. 1 < count_by is_some part.slots.slots) at parts →

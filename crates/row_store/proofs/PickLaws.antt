@@ -1,6 +1,6 @@
 -- What is picked out of a list by rising keys, each element giving one of its key or none: when one element more or less gives something.
-use Rattle.std.proofs.Common.{◌≡◌, ℤ, int_lt, Bool, true, false, not, cond, if◌then◌else◌, List, [], ◌∷◌, refl, sym, ap, ◌∙◌, arith, Some, None}
-use Rattle.std.specs.List.{filter, filter_map, list_all, cons_option}
+use Rattle.std.proofs.Common.{◌≡◌, ℤ, int_lt, Bool, true, false, cond, if◌then◌else◌, List, [], ◌∷◌, refl, sym, ap, ◌∙◌, arith, Some, None}
+use Rattle.std.specs.List.{filter_map, list_all, cons_option}
 use Rattle.std.specs.Option.{option_and_then}
 use Rattle.std.specs.Ordering.{int_eq}
 use Rattle.std.specs.declared.option.Option.{Option}
@@ -98,6 +98,7 @@ picked-more {E} {R} key name f g i (x ∷ xs) e r keeps keeps' rise there none s
         let before : int_lt (key x) (key e) ≡ true = keyed-above key (key x) i xs e (and_parts _ _ rise).0 found in
         let behind : int_lt (name r) (name q) ≡ false = rw (keeps x q is, keeps' e r some) (lt_not_back (key x) (key e) before) in
         rw (is, g_is, behind) (ap (λ l. q ∷ l) rest)
+
     by_test : (t : Bool) → int_eq (key x) i ≡ t → cond t (Some x) (keyed_by key i xs) ≡ Some e → (keyed_by key i xs ≡ Some e → filter_map g xs ≡ with_keyed name r (filter_map f xs)) → filter_map g (x ∷ xs) ≡ with_keyed name r (filter_map f (x ∷ xs))
     by_test true here found rest =
         let is : x ≡ e = cc in
@@ -118,12 +119,14 @@ picked-less {E} {R} key name f g i (x ∷ xs) keeps gone same = by_test (int_eq 
       let none = gone x here in
       let left_out : int_eq (name q) i ≡ true = ap (λ n. int_eq n i) (keeps x q is) ∙ here in
       rw (is, none, left_out) rest
+
   stays : int_eq (key x) i ≡ false → filter_map g xs ≡ without_key name i (filter_map f xs) → (o : Option R) → f x ≡ o → filter_map g (x ∷ xs) ≡ without_key name i (filter_map f (x ∷ xs))
   stays other rest None is = let g_is : g x ≡ None = sym (same x other) ∙ is in rw (is, g_is) rest
   stays other rest (Some q) is =
       let g_is : g x ≡ Some q = sym (same x other) ∙ is in
       let kept : int_eq (name q) i ≡ false = ap (λ n. int_eq n i) (keeps x q is) ∙ other in
       rw (is, g_is, kept) (ap (λ l. q ∷ l) rest)
+
   by_test : (t : Bool) → int_eq (key x) i ≡ t → filter_map g xs ≡ without_key name i (filter_map f xs) → filter_map g (x ∷ xs) ≡ without_key name i (filter_map f (x ∷ xs))
   by_test true here rest = out here rest (f x) refl
   by_test false other rest = stays other rest (f x) refl
@@ -143,11 +146,13 @@ picked-keyed {E} {R} key name pick i (x ∷ xs) keeps rise = by_test (int_eq (ke
   here_it here (Some r) is =
       let at : int_eq (name r) i ≡ true = ap (λ n. int_eq n i) (keeps x r is) ∙ here in
       rw (here, is, at) refl
+
   not_it : int_eq (key x) i ≡ false → keyed_by name i (filter_map pick xs) ≡ option_and_then pick (keyed_by key i xs) → (o : Option R) → pick x ≡ o → keyed_by name i (filter_map pick (x ∷ xs)) ≡ option_and_then pick (keyed_by key i (x ∷ xs))
   not_it other rest None is = rw (other, is) rest
   not_it other rest (Some r) is =
       let at : int_eq (name r) i ≡ false = ap (λ n. int_eq n i) (keeps x r is) ∙ other in
       rw (other, is, at) rest
+
   by_test : (t : Bool) → int_eq (key x) i ≡ t → keyed_by name i (filter_map pick xs) ≡ option_and_then pick (keyed_by key i xs) → keyed_by name i (filter_map pick (x ∷ xs)) ≡ option_and_then pick (keyed_by key i (x ∷ xs))
   by_test true here rest = here_it here (pick x) refl
   by_test false other rest = not_it other rest (pick x) refl

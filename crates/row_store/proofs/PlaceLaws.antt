@@ -1,5 +1,5 @@
 -- The place that a new row takes: its chunk is of the same partition values or new, and the place is free.
-use Rattle.std.proofs.Common.{◌≡◌, ℕ, zero, suc, ◌<◌, ◌≤◌, Bool, true, false, List, refl, sym, ap, ◌∙◌, arith, subst, Some, None, ⊎_elim}
+use Rattle.std.proofs.Common.{◌≡◌, ℕ, zero, suc, ◌<◌, Bool, true, false, List, refl, sym, ap, ◌∙◌, arith, Some}
 use Rattle.std.specs.Prelude.{is_some}
 use Rattle.std.proofs.lemmas.Bool.{cond-true}
 use Rattle.vec_base.specs.declared.value.Value.{Value}
@@ -8,7 +8,7 @@ use Rattle.slot_alloc.specs.Places.{PlaceMap, IsPlaceMap, has_chunk, is_used, pa
 use Rattle.slot_alloc.specs.SlotRule.{IsPlaceFor, chunk_of, slot_of}
 use Rattle.slot_alloc.specs.declared.place.Place.{Place}
 use Rattle.slot_alloc.specs.declared.place.Place.TheVariants.{Slot, NewChunk}
-use Rattle.row_store.proofs.TieLaws.{chunk_used, same_number, same_place}
+use Rattle.row_store.proofs.TieLaws.{chunk_used, same_number}
 use Rattle.row_store.proofs.TouchLaws.{used-also}
 
 pub fitting : (places : PlaceMap) (partition : List Value) (place : Place) → IsPlaceFor places partition place → has_chunk places (chunk_of place) ≡ true → partition_of_chunk places (chunk_of place) ≡ Some partition

@@ -1,29 +1,30 @@
 -- What is read of the rows of a store: the next one, the one of an id or a rowid, and those of a chunk.
-use Rattle.std.proofs.Common.{◌≡◌, ℕ, ℤ, zero, suc, ◌<◌, int_lt, Bool, true, false, not, cond, List, [], ◌∷◌, length, refl, sym, ap, ◌∙◌, arith, subst, Some, None, Bor}
-use Rattle.std.specs.Prelude.{◌&&◌, ◌||◌, ◌==◌, is_some, bytes_eq, slice_index_or, MatchOption, IfSome, option_copied}
-use Rattle.std.specs.List.{AllByRecursion, AllPairs, filter_map, find, list_all, list_any, cons_option}
-use Rattle.std.specs.Option.{option_map, option_and_then, is_none}
+use Rattle.std.proofs.Common.{◌≡◌, ℕ, ℤ, zero, suc, ◌<◌, ◌^◌, int_lt, Bool, true, false, not, cond, List, [], ◌∷◌, length, refl, sym, ap, ◌∙◌, arith, subst, Some, None, Bor}
+use Rattle.std.specs.Prelude.{map, ◌==◌, is_some, bytes_eq, slice_index_or, MatchOption, IfSome, option_copied}
+use Rattle.std.specs.List.{AllByRecursion, AllPairs, find, list_any, cons_option}
+use Rattle.std.specs.Option.{option_map, option_and_then}
 use Rattle.std.specs.Ordering.{int_eq}
 use Rattle.std.specs.declared.option.Option.{Option}
-use Rattle.std.proofs.lemmas.Bool.{and_parts, cond-true, cond-false}
+use Rattle.std.proofs.lemmas.Bool.{and_parts, cond-false}
 use Rattle.std.proofs.lemmas.Int.{ints}
 use Rattle.std.proofs.lemmas.Slice.Eq.{bytes_eq-Decides}
 use Rattle.vec_base.specs.declared.value.Value.{Value}
 use Rattle.chunk_slots.specs.Slots.{Slots, UsedSlot, slot_at, vectors_in}
 use Rattle.row_index.specs.Entries.{entry_of, is_rising, next_after, is_behind, has_id, is_text, is_same_id, have_own_ids, place_of, id_of, rowid_of as rowid_with}
 use Rattle.row_index.specs.declared.entry.Entry.{Entry}
-use Rattle.slot_alloc.specs.Places.{PlaceMap, IsPlaceMap, partition_of_chunk, is_used, has_chunk}
-use Rattle.row_store.specs.Keyed.{keys_rise, keyed_by}
+use Rattle.slot_alloc.specs.Places.{PlaceMap, IsPlaceMap, partition_of_chunk, is_used}
+use Rattle.row_store.specs.Keyed.{keys_rise}
 use Rattle.row_store.specs.Shown.{held_of}
 use Rattle.row_store.specs.StoredRows.{StoredRow, rowid_of, row_of, row_at, first_in, lies_at, row_with_id, has_text, next_row, is_above}
 use Rattle.row_store.specs.declared.part.Part.{Part}
 use Rattle.row_store.specs.declared.place.RowPlace.{RowPlace}
 use Rattle.row_store.specs.inner.Parts.{part_of, slots_of, seen_at, seen_in, HasShape, ArePartsOf}
-use Rattle.row_store.specs.inner.Views.{row_in, row_from, rows_of, is_claimed, is_claimed_rowid, AreTied, values_or_none}
-use Rattle.row_store.proofs.PickLaws.{KeepsKeys, picked-keyed, picked-rise}
-use Rattle.row_store.proofs.SearchLaws.{IsSameTest, find-picked_nowhere, find-picked_first, find-picked_above, found-keyed, found-test, found-all, mapped-some, mapped-none, any-none, pairs-by_key}
-use Rattle.row_store.proofs.TieLaws.{entry_rowid, keeps, entries_rise, entry-rowid, eq_from, eq_to, some_is, number_is, chunk_used}
-use Rattle.row_store.proofs.ViewLaws.{IsRowOf, row-told, row_of-entry, IsSeenRow, seen-row, row_at-none, row_at-seen, all-picked, found-such, find-weaker, none_is, at-used}
+use Rattle.row_store.specs.inner.Views.{row_from, rows_of, is_claimed_rowid, AreTied, values_or_none}
+use Rattle.row_store.proofs.PartLaws.{part_of-number}
+use Rattle.row_store.proofs.PickLaws.{picked-rise}
+use Rattle.row_store.proofs.SearchLaws.{IsSameTest, find-picked_nowhere, find-picked_first, find-picked_above, found-keyed, found-test, mapped-some, mapped-none, any-none, pairs-by_key}
+use Rattle.row_store.proofs.TieLaws.{entry_rowid, keeps, entries_rise, entry-rowid, eq_from, some_is, number_is, chunk_used}
+use Rattle.row_store.proofs.ViewLaws.{IsRowOf, row-told, row_of-entry, seen-row, row_at-none, row_at-seen, all-picked, found-such, find-weaker, none_is, at-used}
 
 lt_not_same : (a b : ℤ) → int_lt a b ≡ true → int_eq a b ≡ false
 lt_not_same a b h = grind (arith, ints)
@@ -43,14 +44,6 @@ text_same parts places id e r is = ap (λ q. has_text id q.id) (row-told parts p
   by_id None = refl
   by_id (Some text) = refl
 
-above_up : (after : Option ℤ) (a b : ℤ) → int_lt a b ≡ true → is_behind after a ≡ true → is_behind after b ≡ true
-above_up None a b lt h = refl
-above_up (Some after) a b lt h = lt_on after a b lt h
-
-behind_above : (after : Option ℤ) (i : ℤ) → is_above after i ≡ is_behind after i
-behind_above None i = refl
-behind_above (Some after) i = refl
-
 -- where an entry with an id gives no row, no row has the id
 own_id : (parts : List Part) (places : PlaceMap) (id : List ℕ) (es : List Entry) (e : Entry) → have_own_ids es ≡ true → find (has_id id) es ≡ Some e → row_from parts places e ≡ None → row_with_id id (rows_of parts places es) ≡ None
 own_id parts places id [] e own is none = absurd cc
@@ -60,15 +53,18 @@ own_id parts places id (x ∷ xs) e own is none = by_test (has_id id x) refl is 
     not_true : (b : Bool) → not b ≡ true → b ≡ false
     not_true false h = refl
     not_true true h = absurd cc
+
     by_id : (o : Option (List ℕ)) → x.id ≡ o → not (list_any (is_same_id o) xs) ≡ true → find (has_id id) xs ≡ None
     by_id None at others = let never : false ≡ true = ap (is_text id) (sym at) ∙ h in absurd cc
     by_id (Some text) at others =
         let equal : bytes_eq text id ≡ true = ap (is_text id) (sym at) ∙ h in
         let same : text ≡ id = (bytes_eq-Decides text id).0 equal in
         any-none (has_id id) xs (ap (λ t. list_any (has_id t) xs) (sym same) ∙ not_true _ others)
+
   by_pick : has_id id x ≡ false → row_with_id id (rows_of parts places xs) ≡ None → (o : Option StoredRow) → row_from parts places x ≡ o → find (λ r. has_text id r.id) (cons_option o (rows_of parts places xs)) ≡ None
   by_pick f rest None at = rest
   by_pick f rest (Some r) at = cond-false _ _ _ (text_same parts places id x r at ∙ f) ∙ rest
+
   by_test : (b : Bool) → has_id id x ≡ b → cond b (Some x) (find (has_id id) xs) ≡ Some e → (find (has_id id) xs ≡ Some e → row_with_id id (rows_of parts places xs) ≡ None) → row_with_id id (rows_of parts places (x ∷ xs)) ≡ None
   by_test true h same rest =
       let x_is : x ≡ e = cc in
@@ -86,7 +82,6 @@ row_made i c s id values vectors = record { rowid = i; chunk = c; slot = s; id =
 
 module _ (parts : List Part) (places : PlaceMap) (entries : List Entry) (claim : Option RowPlace)
     (tied : AreTied parts places entries claim) (rise : is_rising entries ≡ true) where
-
   -- the entry of a claim has no row
   claim-none : (i : ℤ) (e : Entry) → entry_of i entries ≡ Some e → is_claimed_rowid claim i ≡ true → row_from parts places e ≡ None
   claim-none i e there own = by_row (row_from parts places e) refl where
@@ -116,12 +111,14 @@ module _ (parts : List Part) (places : PlaceMap) (entries : List Entry) (claim :
   next-claimed after i is own = by_after after is where
     gone : (e : Entry) → entry_of i entries ≡ Some e → row_from parts places e ≡ None
     gone e there = claim-none i e there own
+
     skipped : (t : ℤ → Bool) → ((a b : ℤ) → int_lt a b ≡ true → t a ≡ true → t b ≡ true) → (m : (e : Entry) × ((find (λ e. t e.rowid) entries ≡ Some e) × (e.rowid ≡ i))) →
         find (λ r. t r.rowid) (rows_of parts places entries) ≡ next_row (Some i) (rows_of parts places entries)
     skipped t up m =
         let there : entry_of i entries ≡ Some m.0 = ap (λ j. entry_of j entries) (sym m.1.1) ∙ found-keyed entry_rowid (λ e. t e.rowid) entries m.0 (entries_rise entries rise) m.1.0 in
         find-picked_above entry_rowid rowid_of (row_from parts places) t entries m.0 (keeps parts places) (entries_rise entries rise) up m.1.0 (gone m.0 there)
         ∙ ap (λ j. next_row (Some j) (rows_of parts places entries)) m.1.1
+
     by_after : (o : Option ℤ) → next_after o entries ≡ Some i → next_row o (rows_of parts places entries) ≡ next_row (Some i) (rows_of parts places entries)
     by_after None found = skipped (λ j. true) (λ a b lt h. refl) (mapped-some (λ e. e.rowid) _ i found)
     by_after (Some after) found = skipped (int_lt after) (λ a b lt h. lt_on after a b lt h) (mapped-some (λ e. e.rowid) _ i found)
@@ -134,6 +131,7 @@ module _ (parts : List Part) (places : PlaceMap) (entries : List Entry) (claim :
     other (Some place) j lt h = apart place.rowid i j lt h where
       apart : (a b d : ℤ) → int_lt b d ≡ true → int_eq a b ≡ true → int_eq a d ≡ false
       apart a b d lt h = grind (arith, ints)
+
     by_next : (o : Option ℤ) → next_after (Some i) entries ≡ o → o ≡ option_map rowid_of (next_row (Some i) (rows_of parts places entries))
     by_next None is = sym (ap (option_map rowid_of) (next-nowhere (Some i) is))
     by_next (Some j) is =
@@ -195,15 +193,18 @@ module _ (parts : List Part) (places : PlaceMap) (entries : List Entry) (claim :
       let id_is : id_of i entries ≡ e.id = ap (option_and_then (λ x. x.id)) m.1.0 in
       let values_is : values_or_none (partition_of_chunk places e.chunk) ≡ u.0 = ap (λ d. values_or_none (partition_of_chunk places d)) c_is ∙ ap values_or_none u.1.1 in
       record {
-        row = r.0; used = told.used; values = u.0;
+        row = r.0;
+        used = told.used;
+        values = u.0;
         given = row_of-entry parts places entries claim tied rise i ∙ ap (option_and_then (row_from parts places)) m.1.0 ∙ r.1;
-        seen = seen; valued = u.1.1;
-        is = told.is ∙ made e.rowid i e.chunk c e.slot s e.id (id_of i entries) (values_or_none (partition_of_chunk places e.chunk)) u.0 told.used.vectors i_is c_is s_is (sym id_is) values_is;
+        seen = seen;
+        valued = u.1.1;
+        is = made r.0 e.rowid i e.chunk c e.slot s e.id (id_of i entries) (values_or_none (partition_of_chunk places e.chunk)) u.0 told.used.vectors told.is i_is c_is s_is (sym id_is) values_is;
       }
     where
-      made : (a b : ℤ) (d e f g : ℕ) (h j : Option (List ℕ)) (v w : List Value) (x : List (List ℕ)) → a ≡ b → d ≡ e → f ≡ g → h ≡ j → v ≡ w →
-          row_made a d f h v x ≡ row_made b e g j w x
-      made a b d e f g h j v w x p q r s t = rw (p, q, r, s, t) refl
+      made : (row : StoredRow) (a b : ℤ) (d e f g : ℕ) (h j : Option (List ℕ)) (v w : List Value) (x : List (List ℕ)) → row ≡ row_made a d f h v x → a ≡ b → d ≡ e → f ≡ g → h ≡ j → v ≡ w →
+          row ≡ row_made b e g j w x
+      made row a b d e f g h j v w x is p q r s t = is ∙ rw (p, q, r, s, t) refl
 
   -- ---- chunks
 
@@ -211,6 +212,7 @@ module _ (parts : List Part) (places : PlaceMap) (entries : List Entry) (claim :
   pub record IsSeen (r : StoredRow) : Type 0 where
     pub used : UsedSlot
     pub seen : seen_at parts r.chunk r.slot ≡ Some used
+    pub own : used.rowid ≡ r.rowid
     pub vectors : r.vectors ≡ used.vectors
     pub valued : partition_of_chunk places r.chunk ≡ Some r.partition
     pub taken : is_used places r.chunk r.slot ≡ true
@@ -226,7 +228,10 @@ module _ (parts : List Part) (places : PlaceMap) (entries : List Entry) (claim :
         let taken = tied.placed r.chunk r.slot (ap is_some at) in
         let u = at-used places r.chunk r.slot taken in
         record {
-          used = told.used; seen = at; vectors = ap (λ z. z.vectors) told.is;
+          used = told.used;
+          seen = at;
+          own = told.own ∙ sym (ap (λ z. z.rowid) told.is);
+          vectors = ap (λ z. z.vectors) told.is;
           valued = u.1.1 ∙ ap Some (sym (p_is ∙ ap (λ d. values_or_none (partition_of_chunk places d)) (sym c_is) ∙ ap values_or_none u.1.1));
           taken = taken;
         }
@@ -323,7 +328,6 @@ slots-shape size widths parts c slots are is =
 
 module _ (parts : List Part) (places : PlaceMap) (entries : List Entry) (claim : Option RowPlace) (size : ℕ) (widths : List ℕ)
     (tied : AreTied parts places entries claim) (rise : is_rising entries ≡ true) (are : ArePartsOf size widths parts) where
-
   -- a chunk is there just where it has a row
   pub part-first : (c : ℕ) → is_some (part_of parts c) ≡ is_some (first_in (rows_of parts places entries) c)
   part-first c = by_part (part_of parts c) refl where
@@ -356,14 +360,6 @@ pub copied-some : {A : Type 0} (o : Option (Bor A)) → is_some (option_copied o
 copied-some None = refl
 copied-some (Some x) = refl
 
-pub is_none-none : {A : Type 0} (o : Option A) → is_none o ≡ true → o ≡ None
-is_none-none None h = refl
-is_none-none (Some x) h = absurd cc
-
-pub is_none-some : {A : Type 0} (o : Option A) → is_none o ≡ false → is_some o ≡ true
-is_none-some None h = absurd cc
-is_none-some (Some x) h = refl
-
 -- ---- the partition values of a chunk
 
 pub first-none : (rows : List StoredRow) (c : ℕ) → is_some (first_in rows c) ≡ false → option_map (λ row. row.partition) (first_in rows c) ≡ None
@@ -374,3 +370,77 @@ pub first-partition : (parts : List Part) (places : PlaceMap) (entries : List En
 first-partition parts places entries claim tied rise c there =
     let r = some_is (first_in (rows_of parts places entries) c) there in
     first-values parts places entries claim tied rise c r.0 r.1 ∙ sym (ap (option_map (λ row. row.partition)) r.1)
+
+-- ---- what holds of all rows
+
+pub record AreRows (size : ℕ) (widths : List ℕ) (rows : List StoredRow) : Type 0 where
+  pub rising : keys_rise rowid_of rows ≡ true
+  pub positive : AllByRecursion (λ row. 0 < row.chunk) rows
+  pub narrow : AllByRecursion (λ row. row.chunk < 2 ^ 32) rows
+  pub within : AllByRecursion (λ row. row.slot < size) rows
+  pub wide : AllByRecursion (λ row. map length row.vectors ≡ widths) rows
+  pub apart : AllPairs (λ row later. row.chunk ≡ later.chunk → row.slot ≡ later.slot → ⊥) rows
+  pub alike : AllPairs (λ row later. row.chunk ≡ later.chunk → row.partition ≡ later.partition) rows
+
+all-turned : {A : Type 0} (P Q : A → Type 0) (xs : List A) → ((x : A) → P x → Q x) → AllByRecursion P xs → AllByRecursion Q xs
+all-turned P Q [] turn all = tt
+all-turned P Q (x ∷ xs) turn all = (turn x all.0, all-turned P Q xs turn all.1)
+
+positive_at : (places : PlaceMap) (c s : ℕ) → IsPlaceMap places → is_used places c s ≡ true → 0 < c
+positive_at places zero s known used = let never : true ≡ false = sym (chunk_used places 0 s used) ∙ known.positive in absurd cc
+positive_at places (suc c) s known used = omega arith
+
+part-seen : (parts : List Part) (c s : ℕ) (used : UsedSlot) → seen_at parts c s ≡ Some used → (p : Part) × ((part_of parts c ≡ Some p) × (slot_at p.slots s ≡ Some used))
+part-seen parts c s used seen = by_part (part_of parts c) refl seen where
+  by_part : (o : Option Part) → part_of parts c ≡ o → seen_in o s ≡ Some used → (p : Part) × ((part_of parts c ≡ Some p) × (slot_at p.slots s ≡ Some used))
+  by_part None is h = absurd cc
+  by_part (Some p) is h = (p, (is, h))
+
+lt_self : (a b : ℤ) → a ≡ b → int_lt a b ≡ true → ⊥
+lt_self a b e h = let same : int_lt b b ≡ true = ap (λ z. int_lt z b) (sym e) ∙ h in let never : true ≡ false = sym same ∙ not_below b in absurd cc where
+  not_below : (z : ℤ) → int_lt z z ≡ false
+  not_below z = grind (arith, ints)
+
+module _ (parts : List Part) (places : PlaceMap) (entries : List Entry) (claim : Option RowPlace) (size : ℕ) (widths : List ℕ)
+    (tied : AreTied parts places entries claim) (rise : is_rising entries ≡ true) (are : ArePartsOf size widths parts) (known : IsPlaceMap places) (sized : places.size ≡ size) where
+  rows-rise : keys_rise rowid_of (rows_of parts places entries) ≡ true
+  rows-rise = picked-rise entry_rowid rowid_of (row_from parts places) entries (keeps parts places) (entries_rise entries rise)
+
+  abbrev Seen : StoredRow → Type 0
+  Seen r = IsSeen parts places entries claim tied rise r
+
+  all-seen : AllByRecursion Seen (rows_of parts places entries)
+  all-seen = rows-seen parts places entries claim tied rise
+
+  narrow_row : (r : StoredRow) → Seen r → r.chunk < 2 ^ 32
+  narrow_row r s =
+      let p = part-seen parts r.chunk r.slot s.used s.seen in
+      let shape : HasShape size widths p.0 = part-such (HasShape size widths) parts r.chunk p.0 are.shaped p.1.0 in
+      let number : p.0.number ≡ r.chunk = part_of-number parts r.chunk p.0 p.1.0 in
+      subst (λ n. n < 2 ^ 32) number shape.narrow
+
+  wide_row : (r : StoredRow) → Seen r → map length r.vectors ≡ widths
+  wide_row r s =
+      let p = part-seen parts r.chunk r.slot s.used s.seen in
+      let shape : HasShape size widths p.0 = part-such (HasShape size widths) parts r.chunk p.0 are.shaped p.1.0 in
+      ap (map length) s.vectors ∙ shape.vectors r.slot s.used p.1.1
+
+  apart_rows : (r q : StoredRow) → Seen r → Seen q → int_lt r.rowid q.rowid ≡ true → r.chunk ≡ q.chunk → r.slot ≡ q.slot → ⊥
+  apart_rows r q s t lt c_is s_is =
+      let seen : seen_at parts r.chunk r.slot ≡ Some t.used = seen_like parts r.chunk q.chunk r.slot q.slot (Some t.used) c_is s_is t.seen in
+      let used_is : s.used ≡ t.used = same_some s.used t.used (sym s.seen ∙ seen) in
+      lt_self r.rowid q.rowid (sym s.own ∙ ap (λ u. u.rowid) used_is ∙ t.own) lt
+
+  alike_rows : (r q : StoredRow) → Seen r → Seen q → r.chunk ≡ q.chunk → r.partition ≡ q.partition
+  alike_rows r q s t c_is = same_some r.partition q.partition (sym s.valued ∙ ap (partition_of_chunk places) c_is ∙ t.valued)
+
+  pub rows-known : AreRows size widths (rows_of parts places entries)
+  rows-known = record {
+    rising = rows-rise;
+    positive = all-turned Seen (λ row. 0 < row.chunk) _ (λ r s. positive_at places r.chunk r.slot known s.taken) all-seen;
+    narrow = all-turned Seen (λ row. row.chunk < 2 ^ 32) _ narrow_row all-seen;
+    within = all-turned Seen (λ row. row.slot < size) _ (λ r s. subst (λ n. r.slot < n) sized (known.within r.chunk r.slot s.taken)) all-seen;
+    wide = all-turned Seen (λ row. map length row.vectors ≡ widths) _ wide_row all-seen;
+    apart = pairs-by_key rowid_of Seen (λ row later. row.chunk ≡ later.chunk → row.slot ≡ later.slot → ⊥) _ rows-rise all-seen apart_rows;
+    alike = pairs-by_key rowid_of Seen (λ row later. row.chunk ≡ later.chunk → row.partition ≡ later.partition) _ rows-rise all-seen (λ r q s t lt. alike_rows r q s t);
+  }

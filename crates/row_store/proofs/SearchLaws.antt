@@ -1,6 +1,6 @@
 -- What a test finds among what is picked out of a list, from what a test of the elements finds there.
-use Rattle.std.proofs.Common.{◌≡◌, ℕ, ℤ, zero, suc, ◌<◌, int_lt, Bool, true, false, not, cond, List, [], ◌∷◌, length, refl, sym, ap, ◌∙◌, arith, Some, None}
-use Rattle.std.specs.Prelude.{◌||◌, is_some, slice_index_or}
+use Rattle.std.proofs.Common.{◌≡◌, ℕ, ℤ, zero, suc, ◌<◌, int_lt, Bool, true, false, cond, List, [], ◌∷◌, length, refl, sym, ap, ◌∙◌, arith, Some, None}
+use Rattle.std.specs.Prelude.{◌||◌, slice_index_or}
 use Rattle.std.specs.List.{AllByRecursion, AllPairs, filter_map, find, list_all, list_any, cons_option}
 use Rattle.std.specs.Option.{option_map}
 use Rattle.std.specs.Ordering.{int_eq}
@@ -20,6 +20,7 @@ find-picked_nowhere {E} {R} pick t u (x ∷ xs) same none = by_test (t x) refl n
   by_pick : t x ≡ false → find u (filter_map pick xs) ≡ None → (o : Option R) → pick x ≡ o → find u (cons_option o (filter_map pick xs)) ≡ None
   by_pick e rest None is = rest
   by_pick e rest (Some r) is = cond-false _ _ _ (same x r is ∙ e) ∙ rest
+
   by_test : (b : Bool) → t x ≡ b → cond b (Some x) (find t xs) ≡ None → (find t xs ≡ None → find u (filter_map pick xs) ≡ None) → find u (filter_map pick (x ∷ xs)) ≡ None
   by_test true e h rest = absurd cc
   by_test false e h rest = by_pick e (rest h) (pick x) refl
@@ -30,6 +31,7 @@ find-picked_first {E} {R} pick t u (x ∷ xs) y r same is gives = by_test (t x) 
   by_pick : t x ≡ false → find u (filter_map pick xs) ≡ Some r → (o : Option R) → pick x ≡ o → find u (cons_option o (filter_map pick xs)) ≡ Some r
   by_pick e rest None is = rest
   by_pick e rest (Some q) is = cond-false _ _ _ (same x q is ∙ e) ∙ rest
+
   by_test : (b : Bool) → t x ≡ b → cond b (Some x) (find t xs) ≡ Some y → (find t xs ≡ Some y → find u (filter_map pick xs) ≡ Some r) → find u (filter_map pick (x ∷ xs)) ≡ Some r
   by_test true e h rest =
       let x_is : x ≡ y = cc in
@@ -87,6 +89,7 @@ find-picked_above {E} {R} key name pick t (y ∷ ys) x keeps rise up is none =
     by_pick e f rest (Some r) p =
         let k = keeps y r p in
         cond-false _ _ _ (ap t k ∙ e) ∙ rest ∙ sym (cond-false _ _ _ (ap (int_lt (key x)) k ∙ f))
+
     by_test : (b : Bool) → t (key y) ≡ b → cond b (Some y) (find (λ z. t (key z)) ys) ≡ Some x → (find (λ z. t (key z)) ys ≡ Some x → find (λ r. t (name r)) (filter_map pick ys) ≡ find (λ r. int_lt (key x) (name r)) (filter_map pick ys)) →
         find (λ r. t (name r)) (filter_map pick (y ∷ ys)) ≡ find (λ r. int_lt (key x) (name r)) (filter_map pick (y ∷ ys))
     by_test true e h rest =

@@ -1,7 +1,9 @@
 -- What each step of a change leaves of the rows, and that slots, places and entries still tell of the same ones.
-use Rattle.std.proofs.Common.{◌≡◌, ℕ, ℤ, int_lt, Bool, true, false, not, cond, if◌then◌else◌, List, [], ◌∷◌, refl, sym, ap, ◌∙◌, arith, Some, None, ⊎_elim, subst}
-use Rattle.std.specs.Prelude.{◌&&◌, ◌==◌, is_some}
-use Rattle.std.specs.List.{filter_map, find, cons_option}
+use Rattle.std.proofs.Common.{◌≡◌, ℕ, ℤ, int_lt, Bool, true, false, cond, if◌then◌else◌, List, [], ◌∷◌, refl, sym, ap, ◌∙◌, arith, Some, None, Ok, Err, subst}
+use Rattle.std.specs.Prelude.{◌&&◌, ◌||◌, ◌==◌, is_some, is_ok, OnOk}
+use Rattle.std.specs.declared.result.Result.{Result}
+use Rattle.vec_base.specs.declared.memory.Memory.{Memory}
+use Rattle.std.specs.List.{cons_option}
 use Rattle.std.specs.Ordering.{int_eq}
 use Rattle.std.specs.declared.option.Option.{Option}
 use Rattle.std.proofs.lemmas.Bool.{and_parts, and_from, cond-true, cond-false}
@@ -13,12 +15,12 @@ use Rattle.row_index.specs.declared.entry.Entry.{Entry}
 use Rattle.slot_alloc.specs.Changes.{UsesAlso, UsesNoMore}
 use Rattle.slot_alloc.specs.declared.chunk.Chunk.{Chunk}
 use Rattle.slot_alloc.specs.Places.{PlaceMap, IsPlaceMap, partition_at, partition_of_chunk, partition_in, partition_in_slot, chunk_with, is_used, has_chunk}
-use Rattle.row_store.specs.Keyed.{keys_rise, with_keyed, without_key}
+use Rattle.row_store.specs.Keyed.{keys_rise, with_keyed}
 use Rattle.row_store.specs.StoredRows.{StoredRow, rowid_of, with_row, without}
 use Rattle.row_store.specs.declared.part.Part.{Part}
 use Rattle.row_store.specs.declared.place.RowPlace.{RowPlace}
 use Rattle.row_store.specs.inner.Parts.{seen_at, IsChangedAt}
-use Rattle.row_store.specs.inner.Views.{row_in, row_from, rows_of, is_claimed, is_claimed_rowid, AreTied, values_or_none}
+use Rattle.row_store.specs.inner.Views.{row_in, row_from, rows_of, AreTied, values_or_none}
 use Rattle.row_store.proofs.KeyedLaws.{found-with_other, found-with, found-without_other, found-without}
 use Rattle.row_store.proofs.PickLaws.{KeepsKeys, picked-with_none, picked-without_none, picked-more, picked-less}
 
@@ -126,7 +128,6 @@ module _ (parts : List Part) (places new : PlaceMap) (entries : List Entry) (cla
     (fits : has_chunk places claim.chunk ≡ true → partition_of_chunk places claim.chunk ≡ Some partition)
     (unused : is_used places claim.chunk claim.slot ≡ false)
     (also : UsesAlso places claim.chunk claim.slot partition new) where
-
   -- the chunk of a used slot has the same partition values as before
   same_partition : (c s : ℕ) → is_used places c s ≡ true → partition_of_chunk new c ≡ partition_of_chunk places c
   same_partition c s used = also.chunks c ∙ by_test (c == claim.chunk) refl where
@@ -162,6 +163,7 @@ module _ (parts : List Part) (places new : PlaceMap) (entries : List Entry) (cla
     or_true : (t b : Bool) → b ≡ true → cond t true b ≡ true
     or_true true b e = refl
     or_true false b e = e
+
     not_seen : (c s : ℕ) → (c == claim.chunk && s == claim.slot) ≡ true → seen_at parts c s ≡ None
     not_seen c s is = by_slot (seen_at parts c s) refl where
       by_slot : (o : Option UsedSlot) → seen_at parts c s ≡ o → o ≡ None
@@ -181,7 +183,6 @@ no_row parts places e free = ap (row_in (partition_of_chunk places e.chunk) e) f
 module _ (parts : List Part) (places : PlaceMap) (entries : List Entry) (claim : RowPlace) (e : Entry)
     (tied : AreTied parts places entries (Some claim)) (none : entry_of claim.rowid entries ≡ None)
     (rowid : e.rowid ≡ claim.rowid) (chunk : e.chunk ≡ claim.chunk) (slot : e.slot ≡ claim.slot) where
-
   claimed_free : seen_at parts e.chunk e.slot ≡ None
   claimed_free = tied.free e.chunk e.slot (rw (chunk, slot) (same_place claim.chunk claim.slot))
 
@@ -214,7 +215,6 @@ module _ (parts new : List Part) (places : PlaceMap) (entries : List Entry) (cla
     (there : entry_of claim.rowid entries ≡ Some e) (chunk : e.chunk ≡ claim.chunk) (slot : e.slot ≡ claim.slot)
     (own : used.rowid ≡ claim.rowid) (change : IsChangedAt claim.chunk claim.slot (Some used) parts new)
     (values : partition_of_chunk places claim.chunk ≡ Some partition) where
-
   seen_now : seen_at new claim.chunk claim.slot ≡ Some used
   seen_now = change.seen claim.chunk claim.slot ∙ cond-true _ _ _ (same_place claim.chunk claim.slot)
 
@@ -243,6 +243,7 @@ module _ (parts new : List Part) (places : PlaceMap) (entries : List Entry) (cla
       where
         apart : (a b : ℤ) → int_eq b a ≡ false → int_eq a b ≡ false
         apart a b h = grind (arith, ints)
+
         not_own : (u : UsedSlot) → Some u ≡ Some used → int_eq u.rowid x.rowid ≡ false
         not_own u same = let is : u ≡ used = cc in ap (λ w. int_eq w.rowid x.rowid) is ∙ ap (λ i. int_eq i x.rowid) own ∙ apart claim.rowid x.rowid other
     by_place false is = ap (row_in (partition_of_chunk places x.chunk) x) (sym (change.seen x.chunk x.slot ∙ cond-false _ _ _ is))
@@ -273,9 +274,11 @@ module _ (parts new : List Part) (places : PlaceMap) (entries : List Entry) (cla
         let own_u : u.rowid ≡ claim.rowid = ap (λ w. w.rowid) (sym u_is) ∙ own in
         (e, (ap (λ i. entry_of i entries) own_u ∙ there, (chunk ∙ sym p.0, slot ∙ sym p.1)))
     entered c s u seen false is = tied.entered c s u (sym (seen_others c s is) ∙ seen)
+
     placed : (c s : ℕ) → is_some (seen_at new c s) ≡ true → (t : Bool) → (c == claim.chunk && s == claim.slot) ≡ t → is_used places c s ≡ true
     placed c s seen true is = tied.claimed c s is
     placed c s seen false is = tied.placed c s (ap is_some (sym (seen_others c s is)) ∙ seen)
+
     held : (i : ℤ) (x : Entry) → entry_of i entries ≡ Some x → (t : Bool) → int_eq claim.rowid i ≡ t → is_some (row_from new places x) ≡ true
     held i x is true own_i =
         let i_is : claim.rowid ≡ i = eq_from claim.rowid i own_i in
@@ -289,6 +292,7 @@ module _ (parts new : List Part) (places : PlaceMap) (entries : List Entry) (cla
       where
         apart : (a b : ℤ) → int_eq a b ≡ false → int_eq b a ≡ false
         apart a b h = grind (arith, ints)
+
     seen : (c s : ℕ) → is_used places c s ≡ true → (t : Bool) → (c == claim.chunk && s == claim.slot) ≡ t → is_some (seen_at new c s) ≡ true
     seen c s is true at = ap is_some (change.seen c s ∙ cond-true _ _ _ at)
     seen c s is false at = ap is_some (seen_others c s at) ∙ tied.used c s is at
@@ -299,7 +303,6 @@ module _ (parts new : List Part) (places : PlaceMap) (entries : List Entry) (cla
     (tied : AreTied parts places entries None) (rise : is_rising entries ≡ true)
     (seen : seen_at parts claim.chunk claim.slot ≡ Some used) (own : used.rowid ≡ claim.rowid)
     (change : IsChangedAt claim.chunk claim.slot None parts new) where
-
   left_others : (c s : ℕ) → (c == claim.chunk && s == claim.slot) ≡ false → seen_at new c s ≡ seen_at parts c s
   left_others c s other = change.seen c s ∙ cond-false _ _ _ other
 
@@ -344,6 +347,7 @@ module _ (parts new : List Part) (places : PlaceMap) (entries : List Entry) (cla
       where
         apart : (a b : ℤ) → int_eq b a ≡ false → int_eq a b ≡ false
         apart a b h = grind (arith, ints)
+
         not_own : (u : UsedSlot) → Some u ≡ Some used → int_eq u.rowid x.rowid ≡ false
         not_own u same = let is_u : u ≡ used = cc in ap (λ w. int_eq w.rowid x.rowid) is_u ∙ ap (λ i. int_eq i x.rowid) own ∙ apart claim.rowid x.rowid other
     by_place false is = ap (row_in (partition_of_chunk places x.chunk) x) (sym (left_others x.chunk x.slot is))
@@ -370,7 +374,6 @@ module _ (parts new : List Part) (places : PlaceMap) (entries : List Entry) (cla
 
 module _ (parts : List Part) (places : PlaceMap) (entries : List Entry) (claim : RowPlace)
     (tied : AreTied parts places entries (Some claim)) (rise : is_rising entries ≡ true) where
-
   -- the entry of the claim has no row
   claim_row : (x : Entry) → entry_of claim.rowid entries ≡ Some x → row_from parts places x ≡ None
   claim_row x there = row_in-none (partition_of_chunk places x.chunk) x (seen_at parts x.chunk x.slot) (λ u seen. apart u.rowid x.rowid claim.rowid (tied.absent x.chunk x.slot u seen) (entry-rowid claim.rowid entries x there)) where
@@ -398,7 +401,6 @@ module _ (parts : List Part) (places : PlaceMap) (entries : List Entry) (claim :
 module _ (parts : List Part) (places new : PlaceMap) (entries : List Entry) (claim : RowPlace) (emptied : Bool)
     (tied : AreTied parts places entries (Some claim)) (none : entry_of claim.rowid entries ≡ None)
     (given : UsesNoMore places claim.chunk claim.slot emptied new) where
-
   still_used : (c s : ℕ) → is_used new c s ≡ cond (c == claim.chunk && s == claim.slot) false (is_used places c s)
   still_used c s = ap is_some (given.places c s) ∙ by_test (c == claim.chunk && s == claim.slot) where
     by_test : (t : Bool) → is_some (cond t None (partition_at places c s)) ≡ cond t false (is_used places c s)
@@ -446,6 +448,7 @@ module _ (parts : List Part) (places new : PlaceMap) (entries : List Entry) (cla
       by_test : (t : Bool) → int_eq claim.rowid i ≡ t → int_eq claim.rowid i ≡ false
       by_test false h = h
       by_test true h = let never : None ≡ Some x = sym none ∙ ap (λ j. entry_of j entries) (eq_from claim.rowid i h) ∙ is in absurd cc
+
     was : (c s : ℕ) → is_used new c s ≡ true → is_some (seen_at parts c s) ≡ true
     was c s is = by_test (c == claim.chunk && s == claim.slot) refl where
       by_test : (t : Bool) → (c == claim.chunk && s == claim.slot) ≡ t → is_some (seen_at parts c s) ≡ true
@@ -456,3 +459,32 @@ module _ (parts : List Part) (places new : PlaceMap) (entries : List Entry) (cla
 pub same_rows : (parts : List Part) (places new : PlaceMap) (entries : List Entry) → ((e : Entry) → row_from parts new e ≡ row_from parts places e) → rows_of parts new entries ≡ rows_of parts places entries
 same_rows parts places new [] same = refl
 same_rows parts places new (e ∷ es) same = rw (same e) (ap (cons_option (row_from parts places e)) (same_rows parts places new es same))
+
+-- ---- a new entry, whether there was memory or not
+
+none-has : (i : ℤ) (entries : List Entry) → entry_of i entries ≡ None → has_rowid i entries ≡ false
+none-has i [] none = refl
+none-has i (e ∷ es) none = by_test (int_eq e.rowid i) none (λ later. none-has i es later) where
+  by_test : (t : Bool) → cond t (Some e) (entry_of i es) ≡ None → (entry_of i es ≡ None → has_rowid i es ≡ false) → (t || has_rowid i es) ≡ false
+  by_test true h rest = absurd cc
+  by_test false h rest = rest h
+
+pub none-has_rowid : (i : ℤ) (entries : List Entry) → entry_of i entries ≡ None → has_rowid i entries ≡ false
+none-has_rowid i entries none = none-has i entries none
+
+abbrev pub entry_at : RowPlace → Option (List ℕ) → Entry
+entry_at claim id = record { rowid = claim.rowid; chunk = claim.chunk; slot = claim.slot; id = id }
+
+module _ (parts : List Part) (places : PlaceMap) (entries : List Entry) (claim : RowPlace) (id : Option (List ℕ))
+    (tied : AreTied parts places entries (Some claim)) (none : entry_of claim.rowid entries ≡ None) where
+  pub put-tied : (b : Bool) (new : List Entry) → new ≡ (if b then with_entry (entry_at claim id) entries else entries) → AreTied parts places new (Some claim)
+  put-tied true new is = subst (λ es. AreTied parts places es (Some claim)) (sym is) (entered-tied parts places entries claim (entry_at claim id) tied none refl refl refl)
+  put-tied false new is = subst (λ es. AreTied parts places es (Some claim)) (sym is) tied
+
+  pub put-rows : (b : Bool) (new : List Entry) → new ≡ (if b then with_entry (entry_at claim id) entries else entries) → rows_of parts places new ≡ rows_of parts places entries
+  put-rows true new is = ap (rows_of parts places) is ∙ entered-rows parts places entries claim (entry_at claim id) tied none refl refl refl
+  put-rows false new is = ap (rows_of parts places) is
+
+  pub put-entry : (r : Result Unit Memory) (new : List Entry) → new ≡ (if is_ok r then with_entry (entry_at claim id) entries else entries) → OnOk r (entry_of claim.rowid new ≡ Some (entry_at claim id))
+  put-entry (Ok u) new is = ap (entry_of claim.rowid) is ∙ entered-entry parts places entries claim (entry_at claim id) tied none refl refl refl
+  put-entry (Err e) new is = tt

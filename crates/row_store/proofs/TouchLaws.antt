@@ -1,12 +1,10 @@
 -- What a touch leaves touched.
-use Rattle.std.proofs.Common.{◌≡◌, ℕ, ℤ, int_lt, Bool, true, false, cond, if◌then◌else◌, List, [], ◌∷◌, refl, sym, ap, ◌∙◌, subst, Some, None, Ok, Err}
+use Rattle.std.proofs.Common.{◌≡◌, ℕ, ℤ, int_lt, Bool, true, false, cond, if◌then◌else◌, List, [], ◌∷◌, refl, sym, ap, ◌∙◌, subst, Some, Ok, Err}
 use Rattle.std.specs.Prelude.{◌&&◌, ◌||◌, ◌==◌, is_some, is_ok, OnOk, OnErr}
-use Rattle.std.specs.List.{find, list_any}
 use Rattle.std.specs.Option.{option_map}
 use Rattle.std.specs.Ordering.{int_eq}
-use Rattle.std.specs.declared.option.Option.{Option}
 use Rattle.std.specs.declared.result.Result.{Result}
-use Rattle.std.proofs.lemmas.Bool.{cond-true, cond-false}
+use Rattle.std.proofs.lemmas.Bool.{cond-true}
 use Rattle.vec_base.specs.declared.memory.Memory.{Memory}
 use Rattle.vec_base.specs.declared.value.Value.{Value}
 use Rattle.row_index.specs.Entries.{has_rowid, place_of, entry_of, with_entry}
@@ -14,7 +12,7 @@ use Rattle.row_index.specs.declared.entry.Entry.{Entry}
 use Rattle.slot_alloc.specs.Changes.{UsesAlso}
 use Rattle.slot_alloc.specs.Places.{PlaceMap, partition_at, is_used}
 use Rattle.row_store.specs.inner.Widening.{KeepsRows, KeepsPlaces, HavePlainValues}
-use Rattle.row_store.proofs.TieLaws.{both_equal, same_place, eq_to}
+use Rattle.row_store.proofs.TieLaws.{same_place, eq_to}
 
 abbrev place_in : Entry → ℕ × ℕ
 place_in x = (x.chunk, x.slot)
@@ -42,6 +40,7 @@ has-with i e (x ∷ xs) = by_order (int_lt e.rowid x.rowid) (has-with i e xs) wh
   swap true false c = refl
   swap false true c = refl
   swap false false c = refl
+
   by_order : (t : Bool) → has_rowid i (with_entry e xs) ≡ (int_eq e.rowid i || has_rowid i xs) → has_rowid i (if t then e ∷ x ∷ xs else x ∷ with_entry e xs) ≡ (int_eq e.rowid i || (int_eq x.rowid i || has_rowid i xs))
   by_order true rest = refl
   by_order false rest = ap (λ b. int_eq x.rowid i || b) rest ∙ swap (int_eq x.rowid i) (int_eq e.rowid i) (has_rowid i xs)

@@ -1,7 +1,7 @@
 -- What is found among the rows of a store, by the entries, the slots and the places.
-use Rattle.std.proofs.Common.{◌≡◌, ℕ, ℤ, int_lt, Bool, true, false, not, cond, List, [], ◌∷◌, refl, sym, ap, ◌∙◌, arith, Some, None, subst}
-use Rattle.std.specs.Prelude.{◌&&◌, ◌==◌, is_some}
-use Rattle.std.specs.List.{AllByRecursion, filter_map, find, list_all, cons_option, slice_index_or}
+use Rattle.std.proofs.Common.{◌≡◌, ℕ, ℤ, int_lt, Bool, true, false, cond, List, [], ◌∷◌, refl, sym, ap, ◌∙◌, arith, Some, None, subst}
+use Rattle.std.specs.Prelude.{◌==◌, is_some}
+use Rattle.std.specs.List.{AllByRecursion, filter_map, find, cons_option, slice_index_or}
 use Rattle.std.specs.Option.{option_map, option_and_then}
 use Rattle.std.specs.Ordering.{int_eq}
 use Rattle.std.specs.declared.option.Option.{Option}
@@ -9,18 +9,18 @@ use Rattle.std.proofs.lemmas.Bool.{and_parts, cond-true, cond-false}
 use Rattle.std.proofs.lemmas.Int.{ints}
 use Rattle.vec_base.specs.declared.value.Value.{Value}
 use Rattle.chunk_slots.specs.Slots.{UsedSlot}
-use Rattle.row_index.specs.Entries.{entry_of, is_rising}
+use Rattle.row_index.specs.Entries.{entry_of, is_rising, has_id, is_text, rowid_of as entry_rowid_of}
 use Rattle.row_index.specs.declared.entry.Entry.{Entry}
 use Rattle.slot_alloc.specs.Places.{PlaceMap, IsPlaceMap, partition_at, partition_of_chunk, partition_in, partition_in_slot, chunk_with, is_used, has_chunk}
 use Rattle.slot_alloc.specs.declared.chunk.Chunk.{Chunk}
 use Rattle.row_store.specs.Keyed.{keys_rise, keyed_by}
-use Rattle.row_store.specs.StoredRows.{StoredRow, rowid_of, row_of, row_at, first_in, lies_at, PlacesAre}
+use Rattle.row_store.specs.StoredRows.{StoredRow, rowid_of, row_of, row_at, row_with_id, has_text, first_in, lies_at, PlacesAre}
 use Rattle.row_store.specs.declared.part.Part.{Part}
 use Rattle.row_store.specs.declared.place.RowPlace.{RowPlace}
 use Rattle.row_store.specs.inner.Parts.{seen_at}
-use Rattle.row_store.specs.inner.Views.{row_in, row_from, rows_of, is_claimed, is_claimed_rowid, AreTied, values_or_none}
-use Rattle.row_store.proofs.PickLaws.{KeepsKeys, picked-keyed, keyed-above}
-use Rattle.row_store.proofs.TieLaws.{entry_rowid, keeps, entries_rise, entry-rowid, row_in-some, row_in-is, eq_from, eq_to, both_equal, same_place, some_is, chunk_used, number_is}
+use Rattle.row_store.specs.inner.Views.{row_from, rows_of, AreTied, values_or_none}
+use Rattle.row_store.proofs.PickLaws.{picked-keyed, keyed-above}
+use Rattle.row_store.proofs.TieLaws.{entry_rowid, keeps, entries_rise, entry-rowid, row_in-some, row_in-is, eq_from, eq_to, both_equal, same_place, some_is, number_is}
 
 -- ---- lists
 
@@ -49,9 +49,11 @@ find-picked_only {E} {R} key pick test i (x ∷ xs) e r there gives holds only =
   where
     same : int_eq (key x) i ≡ true → x ≡ e
     same here = let s : Some x ≡ Some e = sym (cond-true _ _ _ here) ∙ there in cc
+
     none_here : pick x ≡ None → (int_eq (key x) i ≡ false → find test (filter_map pick xs) ≡ Some r) → (t : Bool) → int_eq (key x) i ≡ t → find test (filter_map pick xs) ≡ Some r
     none_here is rest true here = let never : None ≡ Some r = sym is ∙ ap pick (same here) ∙ gives in absurd cc
     none_here is rest false other = rest other
+
     not_here : (q : R) → pick x ≡ Some q → test q ≡ false → (int_eq (key x) i ≡ false → find test (filter_map pick xs) ≡ Some r) → (t : Bool) → int_eq (key x) i ≡ t → find test (filter_map pick xs) ≡ Some r
     not_here q is h rest true here =
         let s : Some q ≡ Some r = sym is ∙ ap pick (same here) ∙ gives in
@@ -59,9 +61,11 @@ find-picked_only {E} {R} key pick test i (x ∷ xs) e r there gives holds only =
         let never : false ≡ true = sym h ∙ ap test q_is ∙ holds in
         absurd cc
     not_here q is h rest false other = rest other
+
     by_test : (q : R) → pick x ≡ Some q → (int_eq (key x) i ≡ false → find test (filter_map pick xs) ≡ Some r) → (t : Bool) → test q ≡ t → cond t (Some q) (find test (filter_map pick xs)) ≡ Some r
     by_test q is rest true h = ap Some (only.0 q is h)
     by_test q is rest false h = not_here q is h rest (int_eq (key x) i) refl
+
     by_pick : (o : Option R) → pick x ≡ o → (int_eq (key x) i ≡ false → find test (filter_map pick xs) ≡ Some r) → find test (cons_option o (filter_map pick xs)) ≡ Some r
     by_pick None is rest = none_here is rest (int_eq (key x) i) refl
     by_pick (Some q) is rest = by_test q is rest (test q) refl
@@ -100,8 +104,8 @@ row-told parts places e r is =
     let given = row_in-is (partition_of_chunk places e.chunk) e (seen_at parts e.chunk e.slot) s.0 s.1.0 s.1.1 in
     let same : Some r ≡ Some (record { rowid = e.rowid; chunk = e.chunk; slot = e.slot; id = e.id; partition = values_or_none (partition_of_chunk places e.chunk); vectors = s.0.vectors }) = sym is ∙ given in
     record { used = s.0; seen = s.1.0; own = s.1.1; is = some_same r _ same } where
-  some_same : (a b : StoredRow) → Some a ≡ Some b → a ≡ b
-  some_same a b e = cc
+      some_same : (a b : StoredRow) → Some a ≡ Some b → a ≡ b
+      some_same a b e = cc
 
 abbrev row_made : PlaceMap → ℤ → ℕ → ℕ → Option (List ℕ) → List (List ℕ) → StoredRow
 row_made places i c s id vectors = record { rowid = i; chunk = c; slot = s; id = id; partition = values_or_none (partition_of_chunk places c); vectors = vectors }
@@ -112,7 +116,6 @@ same_row places used e c s own chunk slot = rw (own, chunk, slot) refl
 
 module _ (parts : List Part) (places : PlaceMap) (entries : List Entry) (claim : Option RowPlace)
     (tied : AreTied parts places entries claim) (rise : is_rising entries ≡ true) where
-
   -- the row of a rowid
   pub row_of-entry : (i : ℤ) → row_of i (rows_of parts places entries) ≡ option_and_then (row_from parts places) (entry_of i entries)
   row_of-entry i = picked-keyed entry_rowid rowid_of (row_from parts places) i entries (keeps parts places) (entries_rise entries rise)
@@ -134,7 +137,10 @@ module _ (parts : List Part) (places : PlaceMap) (entries : List Entry) (claim :
       let own : used.rowid ≡ e.rowid = sym (eq_from e.rowid used.rowid (entry-rowid used.rowid entries e found.1.0)) in
       let seen_e : seen_at parts e.chunk e.slot ≡ Some used = ap (λ d. seen_at parts d e.slot) found.1.1.0 ∙ ap (seen_at parts c) found.1.1.1 ∙ seen in
       record {
-        entry = e; there = found.1.0; chunk = found.1.1.0; slot = found.1.1.1;
+        entry = e;
+        there = found.1.0;
+        chunk = found.1.1.0;
+        slot = found.1.1.1;
         row = record { rowid = e.rowid; chunk = e.chunk; slot = e.slot; id = e.id; partition = values_or_none (partition_of_chunk places e.chunk); vectors = used.vectors };
         gives = row_in-is (partition_of_chunk places e.chunk) e (seen_at parts e.chunk e.slot) used seen_e own;
         is = same_row places used e c s own found.1.1.0 found.1.1.1;
@@ -200,7 +206,6 @@ find-weaker {R} test weaker (x ∷ xs) r implies is = by_weaker (weaker x) refl 
 
 module _ (parts : List Part) (places : PlaceMap) (entries : List Entry)
     (tied : AreTied parts places entries None) (rise : is_rising entries ≡ true) (known : IsPlaceMap places) where
-
   -- each row has the partition values of its chunk
   pub row-values : AllByRecursion (λ r. partition_of_chunk places r.chunk ≡ Some r.partition) (rows_of parts places entries)
   row-values = all-picked (row_from parts places) (λ r. partition_of_chunk places r.chunk ≡ Some r.partition) entries (λ e r is. values e r (row-told parts places e r is)) where
@@ -250,7 +255,6 @@ module _ (parts : List Part) (places : PlaceMap) (entries : List Entry)
 
 module _ (parts : List Part) (places : PlaceMap) (entries : List Entry)
     (tied : AreTied parts places entries None) (rise : is_rising entries ≡ true) where
-
   -- a rowid without a row has no entry, and no slot
   pub new-entry : (i : ℤ) → row_of i (rows_of parts places entries) ≡ None → entry_of i entries ≡ None
   new-entry i none = by_entry (entry_of i entries) refl where
@@ -290,3 +294,27 @@ picked-such {E} {R} key pick P i (x ∷ xs) e r there gives all =
         subst P q_is all.0
     by_key false other None is all rest = rest (sym (cond-false _ _ _ other) ∙ there) all
     by_key false other (Some q) is all rest = rest (sym (cond-false _ _ _ other) ∙ there) all.1
+
+none-all : {R : Type 0} (test : R → Bool) (rs : List R) → find test rs ≡ None → AllByRecursion (λ r. test r ≡ false) rs
+none-all test [] is = tt
+none-all {R} test (r ∷ rs) is = by_test (test r) refl is (λ later. none-all test rs later) where
+  by_test : (t : Bool) → test r ≡ t → cond t (Some r) (find test rs) ≡ None → (find test rs ≡ None → AllByRecursion (λ x. test x ≡ false) rs) → (test r ≡ false) × AllByRecursion (λ x. test x ≡ false) rs
+  by_test true e h rest = absurd cc
+  by_test false e h rest = (e, rest h)
+
+module _ (parts : List Part) (places : PlaceMap) (entries : List Entry)
+    (tied : AreTied parts places entries None) (rise : is_rising entries ≡ true) where
+  -- an id without a row has no entry
+  pub new-id : (text : List ℕ) → row_with_id text (rows_of parts places entries) ≡ None → entry_rowid_of text entries ≡ None
+  new-id text none = ap (option_map (λ e. e.rowid)) (find-none_such (has_id text) entries (all-members entry_rowid (λ e. has_id text e ≡ false) entries (entries_rise entries rise) each)) where
+    each : (e : Entry) → keyed_by entry_rowid e.rowid entries ≡ Some e → has_id text e ≡ false
+    each e there =
+        let r = some_is (row_from parts places e) (tied.held e.rowid e there refl) in
+        let told = row-told parts places e r.0 r.1 in
+        let id_is : r.0.id ≡ e.id = ap (λ q. q.id) told.is in
+        let out : has_text text r.0.id ≡ false = picked-such entry_rowid (row_from parts places) (λ row. has_text text row.id ≡ false) e.rowid entries e r.0 there r.1 (none-all (λ row. has_text text row.id) (rows_of parts places entries) none) in
+        same_test text e.id ∙ ap (has_text text) (sym id_is) ∙ out
+      where
+        same_test : (t : List ℕ) (id : Option (List ℕ)) → is_text t id ≡ has_text t id
+        same_test t None = refl
+        same_test t (Some x) = refl

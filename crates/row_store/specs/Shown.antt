@@ -1,5 +1,5 @@
 -- What a store shows of its rows.
-use Rattle.std.specs.Prelude.{ℕ, ℤ}
+use Rattle.std.specs.Prelude.{ℤ}
 use Rattle.std.specs.Option.{option_copied}
 use Rattle.chunk_slots.specs.Slots.{UsedSlot, slot_at, vectors_in}
 use Rattle.row_store.specs.StoredRows.{StoredRow}

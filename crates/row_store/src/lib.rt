@@ -1,10 +1,13 @@
 //! The rows of a table in chunks: where each lies, and what was touched since the rows were shared.
 #![tactic(auto)]
 
+mod claims;
 mod part;
 mod parts;
 mod place;
+mod put;
 mod readers;
+mod remove;
 mod rows;
 mod store;
 mod touched;

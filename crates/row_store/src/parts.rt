@@ -75,11 +75,7 @@ pub(crate) fn next_number(parts: &Leaves<Shared<Part>>, after: u32) -> Option<u3
 }
 
 /// A row takes a free slot of the part at a place. After want of memory the parts are as before.
-fn fill_slot(
-    parts: &mut Leaves<Shared<Part>>,
-    at: usize,
-    row: &PlaceRow<'_>,
-) -> Result<(), Memory>
+fn fill_slot(parts: &mut Leaves<Shared<Part>>, at: usize, row: &PlaceRow<'_>) -> Result<(), Memory>
     requires within { at < length parts.old }
     requires rise { numbers_rise parts.old ≡ true }
     requires fits { HoldsAt (CanTake row.now.slot (vectors_of row.now.values.now)) at parts.old }

@@ -1,13 +1,13 @@
 //! What is read of the rows of a store.
-ghost use Rattle.std.specs.Prelude.{◌≡◌, ℕ, ◌<◌, true, length, None, Some, IfOk, IfSome, MatchOption, is_some};
+ghost use Rattle.std.specs.Prelude.{◌≡◌, ℕ, ◌<◌, ◌^◌, true, [], length, map, None, Some, IfOk, IfSome, MatchOption, is_some};
+ghost use Rattle.std.specs.List.{AllByRecursion, AllPairs};
 ghost use Rattle.std.specs.Option.{option_copied, option_map};
 ghost use Rattle.chunk_slots.specs.Slots.{slot_at};
-ghost use Rattle.slot_alloc.specs.Places.{IsChunkSize, IsPlaceMap};
 ghost use Rattle.row_store.specs.Keyed.{keys_rise};
 ghost use Rattle.row_store.specs.StoredRows.{rowid_of, row_of, row_at, first_in, row_with_id, next_row};
 ghost use Rattle.row_store.specs.Touches.{Follows};
 ghost use Rattle.row_store.specs.Shown.{shown, held_of};
-ghost use Rattle.row_store.specs.inner.Parts.{numbers_rise, slots_of, ArePartsOf};
+ghost use Rattle.row_store.specs.inner.Parts.{numbers_rise, slots_of};
 ghost use Rattle.row_store.specs.inner.Views.{is_claimed_rowid, seen_rows, AreTied};
 
 use crate::parts;
@@ -113,6 +113,20 @@ fn copied_widths(alloc: Global, widths: &List<u16>) -> Result<List<u16>, Memory>
 }
 
 impl RowStore {
+    /// What holds of the rows of every store. The call does nothing: its clauses are all that it gives.
+    pub fn known(&self)
+        ensures rising { keys_rise rowid_of self.now.rows ≡ true }
+        ensures positive { AllByRecursion (λ row. 0 < row.chunk) self.now.rows }
+        ensures narrow { AllByRecursion (λ row. row.chunk < 2 ^ 32) self.now.rows }
+        ensures within { AllByRecursion (λ row. row.slot < self.now.size) self.now.rows }
+        ensures widths { AllByRecursion (λ row. map length row.vectors ≡ self.now.widths) self.now.rows }
+        ensures apart { AllPairs (λ row later. row.chunk ≡ later.chunk → row.slot ≡ later.slot → ⊥) self.now.rows }
+        ensures alike { AllPairs (λ row later. row.chunk ≡ later.chunk → row.partition ≡ later.partition) self.now.rows }
+    {
+        self.rows.index.known();
+        self.rows.places.known();
+    }
+
     /// The least rowid of a row above one, or the least of all.
     pub fn next(&self, after: Option<i64>) -> Option<i64>
         ensures { result ≡ option_map rowid_of (next_row after self.now.rows) }
@@ -174,6 +188,8 @@ impl RowStore {
         ensures rows { IfOk result (λ other. other.rows ≡ self.now.rows) }
         ensures size { IfOk result (λ other. other.size ≡ self.now.size) }
         ensures widths { IfOk result (λ other. other.widths ≡ self.now.widths) }
+        ensures no_row_touched { IfOk result (λ other. other.touches.rows ≡ []) }
+        ensures no_place_touched { IfOk result (λ other. other.touches.places.chunks ≡ []) }
         ensures follows { IfOk result (λ other. Follows self.now.rows other) }
     {
         self.rows.places.known();

@@ -62,6 +62,7 @@ impl Touched {
         requires { IsChunkSize size }
         ensures rows { IfOk result (λ touched. touched.rows ≡ []) }
         ensures size { IfOk result (λ touched. touched.places.size ≡ size) }
+        ensures places { IfOk result (λ touched. touched.places.chunks ≡ []) }
     {
         Ok(Touched {
             rows: RowIndex::new(alloc),

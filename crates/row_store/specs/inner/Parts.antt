@@ -1,5 +1,5 @@
 -- Chunks by their numbers, and what their slots hold.
-use Rattle.std.specs.Prelude.{◌≡◌, ℕ, zero, suc, Bool, true, ◌&&◌, ◌==◌, cond, if◌then◌else◌, nat_lt, ◌<◌, List, [], ◌∷◌, map, length, Option, Some, None, is_some}
+use Rattle.std.specs.Prelude.{◌≡◌, ℕ, zero, suc, Bool, true, ◌&&◌, ◌==◌, cond, if◌then◌else◌, nat_lt, ◌<◌, ◌^◌, List, [], ◌∷◌, map, length, Option, Some, None, is_some}
 use Rattle.std.specs.List.{list_all, list_any, AllByRecursion}
 use Rattle.std.specs.Option.{option_map}
 use Rattle.chunk_slots.specs.Slots.{Slots, UsedSlot, slot_at, with_slot}
@@ -31,11 +31,13 @@ number_at [] k = 0
 number_at (p ∷ ps) zero = p.number
 number_at (p ∷ ps) (suc k) = number_at ps k
 
--- so many slots, some of them used, and vectors of these widths
+-- so many slots, some of them used, vectors of these widths, and a number of 32 bits
 pub record HasShape (size : ℕ) (widths : List ℕ) (p : Part) : Type 0 where
   pub long : length p.slots.slots ≡ size
   pub wide : p.slots.widths ≡ widths
   pub filled : list_any is_some p.slots.slots ≡ true
+  pub vectors : (s : ℕ) (used : UsedSlot) → slot_at p.slots s ≡ Some used → map length used.vectors ≡ widths
+  pub narrow : p.number < 2 ^ 32
 
 pub record ArePartsOf (size : ℕ) (widths : List ℕ) (parts : List Part) : Type 0 where
   pub rise : numbers_rise parts ≡ true

@@ -88,3 +88,13 @@ pub record IsReady (old : PlaceMap) (new : Rows) (touches : Touches) (partition 
   pub entry : entry_of rowid new.index ≡ Some (record { rowid = rowid; chunk = at.chunk; slot = at.slot; id = id })
   pub row : is_touched_row touches rowid ≡ true
   pub spot : is_touched_place touches at.chunk at.slot ≡ true
+
+-- the row of a rowid lies at a place, both are touched, and nothing is left behind
+pub record IsFoundRow (rows : Rows) (touches : Touches) (rowid : ℤ) (at : RowPlace) : Type 0 where
+  pub own : at.rowid ≡ rowid
+  pub used : UsedSlot
+  pub seen : seen_at rows.parts at.chunk at.slot ≡ Some used
+  pub same : used.rowid ≡ rowid
+  pub settled : rows.claim ≡ None
+  pub row : is_touched_row touches rowid ≡ true
+  pub spot : is_touched_place touches at.chunk at.slot ≡ true

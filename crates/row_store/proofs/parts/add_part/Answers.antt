@@ -1,9 +1,8 @@
-use Rattle.std.proofs.Common.{◌≡◌, ℕ, ◌<◌, ap, ◌∙◌, sym, arith}
+use Rattle.std.proofs.Common.{◌≡◌, ap, ◌∙◌, arith}
 use Rattle.std.specs.List.{insert}
 use Rattle.std.specs.Prelude.{Some}
 use Rattle.chunk_slots.specs.Slots.{UsedSlot, all_free, vectors_of}
-use Rattle.row_store.specs.declared.part.Part.{Part}
-use Rattle.row_store.specs.inner.Parts.{number_at, with_content, IsChangedAt, ArePartsOf}
+use Rattle.row_store.specs.inner.Parts.{with_content}
 use Rattle.row_store.proofs.PartLaws.{added-at, added-shapes}
 use Rattle.row_store.proofs.parts.add_part.Goals as goal
 
@@ -27,4 +26,4 @@ pub returns-clause-shapes : goal.returns-clause-shapes
 returns-clause-shapes c =
     let number = c.from.ensures in
     rw (now c) (added-shapes c.args.parts.now c.first_from-at.result c.args.row.now.slot c.args.size c.args.widths.now (used c) c.args.number c.first_from-at.ensures.within
-    (λ k lt. let h = c.first_from-at.ensures.front k lt in omega (arith, h, number)) (λ k le lt. let h = c.first_from-at.ensures.back k le lt in omega (arith, h, number)) c.requires.new c.requires.parts.rise c.requires.slot c.requires.parts)
+    (λ k lt. let h = c.first_from-at.ensures.front k lt in omega (arith, h, number)) (λ k le lt. let h = c.first_from-at.ensures.back k le lt in omega (arith, h, number)) c.requires.new c.requires.parts.rise c.requires.slot c.requires.fits c.ranges.number.fits c.requires.parts)

@@ -1,10 +1,4 @@
-use Rattle.std.proofs.Common.{◌≡◌, ◌<◌, ◌≤◌, sym, ap, ◌∙◌, arith}
-use Rattle.std.specs.List.{count_by}
-use Rattle.std.specs.Prelude.{is_some}
-use Rattle.chunk_slots.specs.Slots.{slot_at}
-use Rattle.row_store.specs.declared.part.Part.{Part}
-use Rattle.row_store.specs.inner.Parts.{seen_in}
-use Rattle.row_store.proofs.PartLaws.{IsFound, found_at, holds_found}
+use Rattle.row_store.proofs.PartLaws.{found_at}
 use Rattle.row_store.proofs.parts.drop_row.Goals as goal
 
 pub returns-then-used-gt1-clause-changed : goal.returns-then-used-gt1-clause-changed

@@ -1,8 +1,5 @@
-use Rattle.std.proofs.Common.{◌≡◌, length, sym, ap, ◌∙◌, subst}
-use Rattle.chunk_slots.specs.Slots.{used_by, vectors_of}
-use Rattle.row_store.specs.declared.part.Part.{Part}
-use Rattle.row_store.specs.inner.Parts.{IsChangedAt, KeepShapes}
-use Rattle.row_store.proofs.PartLaws.{part_at, changed-at, edited-shapes, placed-shape, filled_at}
+use Rattle.chunk_slots.specs.Slots.{vectors_of}
+use Rattle.row_store.proofs.PartLaws.{filled_at}
 use Rattle.row_store.proofs.parts.fill_slot.Goals as goal
 
 pub returns-clause-changed : goal.returns-clause-changed

@@ -1,4 +1,4 @@
-use Rattle.std.proofs.Common.{◌≡◌, ℕ, ◌<◌, ◌≤◌, length, ap, ◌∙◌, arith, ⊎_elim}
+use Rattle.std.proofs.Common.{◌≡◌, ◌<◌, ◌≤◌, length, ap, arith, ⊎_elim}
 use Rattle.row_store.specs.inner.Parts.{number_at}
 use Rattle.row_store.proofs.PartLaws.{number_at-read, numbers-rise, none_between, part_of-at}
 use Rattle.std.proofs.lemmas.Bool.{cases_lt}

@@ -1,4 +1,4 @@
-use Rattle.std.proofs.Common.{◌≡◌, ℕ, ◌+◌, ◌-◌, ◌/◌, ◌<◌, ◌≤◌, length, ap, ◌∙◌, arith}
+use Rattle.std.proofs.Common.{◌≡◌, ◌+◌, ◌-◌, ◌/◌, ◌<◌, length, ap, arith}
 use Rattle.row_store.specs.inner.Parts.{number_at}
 use Rattle.row_store.proofs.PartLaws.{number_at-read, from_on}
 use Rattle.row_store.proofs.parts.first_from.Goals as goal

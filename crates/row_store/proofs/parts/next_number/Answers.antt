@@ -1,4 +1,4 @@
-use Rattle.std.proofs.Common.{◌≡◌, ℕ, ◌<◌, ◌≤◌, length, ap, ◌∙◌, arith}
+use Rattle.std.proofs.Common.{◌≡◌, ◌<◌, length, ap, arith}
 use Rattle.std.specs.Prelude.{is_some}
 use Rattle.row_store.specs.inner.Parts.{number_at}
 use Rattle.row_store.proofs.PartLaws.{number_at-read, from_on, none_between, part_of-at}
@@ -16,6 +16,8 @@ returns c =
     let same = ap (λ p. p.number) c.get-2.ensures in
     let number = c.from.ensures in
     let least = c.first_from-at.ensures.back at (omega arith) within in
-    let there = part_of-at parts c.get-2.result.now.number at c.get.result.now c.requires within (omega (arith, is, same)) in
-    (omega (arith, is, same, number, least), ap is_some there,
-    λ d above below. none_between parts d at (λ k low. let h = c.first_from-at.ensures.front k low in omega (arith, h, number, above)) (λ k le lt. let h = from_on parts at k c.requires le lt in omega (arith, h, is, same, below)))
+    let there = part_of-at parts c.get-2.result.now.number at c.get.result.now c.requires within (omega (arith, is, same)) in (
+      omega (arith, is, same, number, least),
+      ap is_some there,
+      λ d above below. none_between parts d at (λ k low. let h = c.first_from-at.ensures.front k low in omega (arith, h, number, above)) (λ k le lt. let h = from_on parts at k c.requires le lt in omega (arith, h, is, same, below)),
+    )

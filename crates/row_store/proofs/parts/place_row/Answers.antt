@@ -1,6 +1,6 @@
 use Rattle.chunk_slots.specs.Slots.{vectors_of}
 use Rattle.std.proofs.lemmas.Result.{on_ok_weaker}
-use Rattle.row_store.proofs.PartLaws.{IsFound, found_at, can_take}
+use Rattle.row_store.proofs.PartLaws.{found_at, can_take}
 use Rattle.row_store.proofs.parts.place_row.Goals as goal
 
 pub fill_slot-requires-clause-fits : goal.fill_slot-requires-clause-fits

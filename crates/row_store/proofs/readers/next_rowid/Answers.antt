@@ -1,4 +1,4 @@
-use Rattle.std.proofs.Common.{◌≡◌, ℤ, true, false, sym, ap, ◌∙◌, rules, SFits, w64, to_z, of_z, Some}
+use Rattle.std.proofs.Common.{◌≡◌, ℤ, true, false, sym, ap, ◌∙◌, rules, SFits, w64, Some}
 use Rattle.std.specs.Option.{option_map}
 use Rattle.std.proofs.lemmas.Int.{to_z-of_z}
 use Rattle.row_index.specs.Entries.{next_after}

@@ -1,14 +1,12 @@
-use Rattle.std.proofs.Common.{◌≡◌, ℕ, ℤ, true, false, sym, ap, ◌∙◌, rules, SFits, w64, to_z, of_z, Some, None}
+use Rattle.std.proofs.Common.{◌≡◌, ℤ, sym, ap, ◌∙◌, rules, SFits, w64, Some, None}
 use Rattle.std.specs.Prelude.{is_some}
 use Rattle.std.specs.Option.{option_map, option_copied}
 use Rattle.std.proofs.lemmas.Int.{to_z-of_z}
-use Rattle.chunk_slots.specs.Slots.{slot_at}
 use Rattle.row_index.specs.Entries.{place_of, id_of}
 use Rattle.slot_alloc.specs.Places.{partition_of_chunk}
 use Rattle.row_store.specs.Shown.{shown}
 use Rattle.row_store.specs.inner.Parts.{slots_of}
-use Rattle.row_store.specs.inner.Views.{is_claimed_rowid}
-use Rattle.row_store.proofs.ReadLaws.{row-nowhere, row-claimed, IsThere, row-there, slot-of_seen, never_valued, never_seen, row-shown, same_some}
+use Rattle.row_store.proofs.ReadLaws.{row-nowhere, row-claimed, row-there, slot-of_seen, never_valued, never_seen, row-shown, same_some}
 use Rattle.row_store.proofs.readers.row_with.Goals as goal
 
 pub returns-in_err-chunk-clause-row : goal.returns-in_err-chunk-clause-row

@@ -1,7 +1,7 @@
-use Rattle.std.proofs.Common.{◌≡◌, ℕ, true, false, sym, ap, ◌∙◌, rules, SFits, w64, to_z, of_z}
-use Rattle.std.specs.Prelude.{is_some, is_ok, None}
+use Rattle.std.proofs.Common.{ℕ, sym, ap, ◌∙◌, rules, SFits, w64}
+use Rattle.std.specs.Prelude.{is_some, is_ok}
 use Rattle.std.proofs.lemmas.Int.{to_z-of_z}
-use Rattle.row_index.specs.Entries.{place_of, has_rowid}
+use Rattle.row_index.specs.Entries.{place_of}
 use Rattle.row_store.proofs.TouchLaws.{place-some, keeps-put, put-given}
 use Rattle.row_store.proofs.touched.touch_row.Goals as goal
 

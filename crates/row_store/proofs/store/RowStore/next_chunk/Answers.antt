@@ -1,4 +1,4 @@
-use Rattle.std.proofs.Common.{◌≡◌, ℕ, ◌<◌, true, None, sym, ap, subst}
+use Rattle.std.proofs.Common.{◌≡◌, ℕ, ◌<◌, true, None, ap, subst}
 use Rattle.std.specs.Prelude.{is_some, MatchOption}
 use Rattle.row_store.specs.StoredRows.{first_in}
 use Rattle.row_store.proofs.ReadLaws.{next-first_in}

@@ -1,6 +1,6 @@
-use Rattle.std.proofs.Common.{◌≡◌, ℕ, true, false, None, Some, List, sym, ap, ◌∙◌}
+use Rattle.std.proofs.Common.{◌≡◌, true, false, List, sym, ap, ◌∙◌}
 use Rattle.std.specs.Prelude.{is_some, not}
-use Rattle.std.specs.Option.{option_map, option_copied}
+use Rattle.std.specs.Option.{option_map}
 use Rattle.vec_base.specs.declared.value.Value.{Value}
 use Rattle.row_store.specs.StoredRows.{StoredRow, first_in}
 use Rattle.row_store.specs.inner.Views.{rows_of}

@@ -1,5 +1,4 @@
-use Rattle.std.proofs.Common.{◌≡◌, length, sym, ap, ◌∙◌, Some}
-use Rattle.row_store.specs.inner.Parts.{slots_of}
+use Rattle.std.proofs.Common.{ap, ◌∙◌}
 use Rattle.row_store.proofs.ReadLaws.{slots-shape, if_some-more}
 use Rattle.row_store.proofs.store.RowStore.row.Goals as goal
 
