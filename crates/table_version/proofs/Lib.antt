@@ -8,6 +8,7 @@ pub mod OriginLaws
 pub mod PlacedLaws
 pub mod PutLaws
 pub mod ReaderLaws
+pub mod RemoveLaws
 pub mod RoomLaws
 pub mod SchemaShape
 pub mod SoundLaws

@@ -1,3 +1,4 @@
 pub mod Refusing
+pub mod StoredBytes
 pub mod StoredTables
 pub mod Weaving

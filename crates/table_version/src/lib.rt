@@ -5,6 +5,7 @@ mod columns;
 mod given;
 mod insert;
 mod readers;
+mod remove;
 mod table;
 
 pub use table::TableVersion;
