@@ -1,8 +1,8 @@
 -- Given values as the values of a row: with the rowid in the integer key they are valid, and keep their texts, partition values and vectors.
-use Rattle.std.proofs.Common.{◌≡◌, ℕ, ℤ, ◌+◌, Bool, true, false, cond, List, [], ◌∷◌, ◌∙◌, refl, sym, ap, ap₂, arith, Option, Some, None}
-use Rattle.std.specs.Prelude.{◌&&◌, sum_by, if◌then◌else◌, FitsSigned}
+use Rattle.std.proofs.Common.{◌≡◌, ℕ, ℤ, ◌+◌, Bool, true, false, cond, List, [], ◌∷◌, ◌∙◌, refl, sym, ap, ap₂, arith, Option}
+use Rattle.std.specs.Prelude.{sum_by, if◌then◌else◌, FitsSigned}
 use Rattle.std.specs.Int.{w64}
-use Rattle.std.specs.List.{AllByRecursion, cons_option}
+use Rattle.std.specs.List.{cons_option}
 use Rattle.std.specs.Ordering.{int_eq}
 use Rattle.std.proofs.lemmas.Bool.{and_parts, and_from}
 use Rattle.std.proofs.lemmas.Int.{ints}
@@ -14,7 +14,7 @@ use Rattle.chunk_slots.specs.Slots.{vector_of, vectors_of}
 use Rattle.row_model.specs.Change.{keyed, keyed_value}
 use Rattle.row_model.specs.ColumnNames.{is_text_key}
 use Rattle.row_model.specs.RepresentableStatements.{AreRepresentable}
-use Rattle.row_model.specs.Schemas.{is_auxiliary, is_partition}
+use Rattle.row_model.specs.Schemas.{is_partition}
 use Rattle.row_model.specs.Valid.{is_fitting, is_valid_value, are_valid_values}
 use Rattle.row_model.specs.Values.{is_null, is_of_kind, side_bytes}
 use Rattle.row_model.specs.declared.schema.Column.{Column}

@@ -1,52 +1,35 @@
 -- A new row: what refuses it by what is stored, and what it makes of a sound store.
-use Rattle.std.proofs.Common.{◌≡◌, ℕ, ℤ, ◌+◌, ◌<◌, ◌≤◌, Bool, true, false, cond, List, [], ◌∷◌, ◌++◌, ◌∙◌, refl, sym, ap, ap₂, subst, arith, map, length, Option, Some, None}
-use Rattle.std.specs.Prelude.{◌||◌, find, is_some, nat_lt, sum_by, bytes_eq, if◌then◌else◌}
+use Rattle.std.proofs.Common.{◌≡◌, ℕ, ℤ, ◌+◌, ◌≤◌, Bool, true, false, cond, List, [], ◌∷◌, ◌++◌, ◌∙◌, refl, sym, ap, arith, length, Option, Some, None}
+use Rattle.std.specs.Prelude.{◌||◌, find, is_some, nat_lt, bytes_eq}
 use Rattle.std.specs.List.{list_all, AllByRecursion}
 use Rattle.std.specs.Option.{option_map}
 use Rattle.std.specs.Ordering.{int_eq}
 use Rattle.std.proofs.lemmas.Slice.Eq.{bytes_eq-Decides}
 use Rattle.vec_base.specs.declared.limits.TheConstants.{MOST_ROWS}
-use Rattle.vec_base.specs.declared.refusal.Refusal.{Refusal}
 use Rattle.vec_base.specs.declared.refusal.Refusal.TheVariants.{Duplicate}
 use Rattle.vec_base.specs.declared.value.Value.{Value}
-use Rattle.chunk_slots.specs.Slots.{vectors_of}
-use Rattle.row_model.specs.Change.{assigned, duplicate, keyed, larger, rows_side_bytes, same_id, spent, taken_id, taken_rowid}
+use Rattle.row_model.specs.Change.{duplicate, spent, taken_id, taken_rowid}
 use Rattle.row_model.specs.Limits.{over_rows}
-use Rattle.row_model.specs.RepresentableStatements.{AreRepresentable}
 use Rattle.row_model.specs.RefusalOrder.{when}
 use Rattle.row_model.specs.Rows.{has_rowid}
 use Rattle.row_model.specs.Schemas.{count_of, is_key}
 use Rattle.row_model.specs.Valid.{are_valid_values, is_valid_row}
-use Rattle.row_model.specs.Values.{side_bytes}
 use Rattle.row_model.specs.declared.limits.TheConstants.{ROWS_LIMIT}
 use Rattle.row_model.specs.declared.row.Row.{Row}
 use Rattle.row_model.specs.declared.row.Table.{Table}
 use Rattle.row_model.specs.declared.schema.Column.{Column}
-use Rattle.row_model.specs.declared.schema.Schema.{Schema}
-use Rattle.row_model.proofs.SchemaLaws.{faultless}
 use Rattle.row_model.proofs.SelectLaws.{both_empty}
 use Rattle.row_model.proofs.ValidityRows.{over_none}
 use Rattle.row_store.specs.Shown.{shown}
 use Rattle.row_store.specs.declared.readers.RowRef.{RowRef}
-use Rattle.row_store.specs.StoredRows.{StoredRow, PlacesAre, has_text, lies_at, rowid_of, row_of as stored_of, row_with_id as stored_with_id, with_row}
-use Rattle.row_store.specs.Touches.{StoreState, IsPut, HasSameShape}
-use Rattle.slot_alloc.specs.Places.{PlaceMap}
-use Rattle.slot_alloc.specs.SlotRule.{IsPlaceFor, chunk_of, slot_of}
-use Rattle.shadow_records.specs.PlacedTables.{PlacedRow, PlacedTable, IsPlaced, partition_of, plain, plain_rows}
-use Rattle.table_version.specs.Inserting.{are_fitting, insert_refusals, new_row, partition_in, ArePlacesOf, IsInserted}
+use Rattle.row_store.specs.StoredRows.{StoredRow, has_text, rowid_of, row_of as stored_of}
+use Rattle.shadow_records.specs.PlacedTables.{PlacedRow, plain_rows}
+use Rattle.table_version.specs.Inserting.{insert_refusals, new_row}
 use Rattle.table_version.specs.Kept.{id_in, is_one_id}
-use Rattle.table_version.specs.PlacedRows.{with_placed, table_with}
 use Rattle.table_version.specs.inner.Refusing.{given_taken, taken_text, twice}
-use Rattle.table_version.specs.inner.StoredTables.{placed, placed_rows, stored, table_from, GivesAgain, IsSound}
-use Rattle.table_version.specs.inner.Weaving.{woven}
-use Rattle.table_version.proofs.ByteLaws.{side_bytes-with}
-use Rattle.table_version.proofs.GivenLaws.{AreKeyedWell, keyed-well, keyed-representable}
-use Rattle.table_version.proofs.PlacedLaws.{IsPlacedNew, plain-with, placed-with as table-with}
-use Rattle.table_version.proofs.RoomLaws.{HasPlace, new_place, new_apart, new_alike}
-use Rattle.table_version.proofs.SchemaShape.{chunk-size}
-use Rattle.table_version.proofs.StoredLaws.{all-with, each, find-alike, find-map, placed-at, placed-first, placed-with, same_partition, weaken}
-use Rattle.table_version.proofs.ValidityLaws.{FitsIfGiven, assigned-fits, assigned-fresh, find-same_id}
-use Rattle.table_version.proofs.WeavingLaws.{woven-back}
+use Rattle.table_version.specs.inner.StoredTables.{placed, placed_rows, GivesAgain}
+use Rattle.table_version.proofs.StoredLaws.{each, find-alike, find-map, weaken}
+use Rattle.table_version.proofs.ValidityLaws.{find-same_id}
 
 -- ---- what refuses it
 
@@ -85,7 +68,7 @@ taken_id-stored columns rowid values rows few valid all again =
     let second = find-map (λ (p : PlacedRow). p.row) test (placed_rows columns rows) in
     let third = find-map (placed columns) (λ (p : PlacedRow). test p.row) rows in
     let fourth = find-alike (λ x. test (placed columns x).row) (λ x. is_one_id id x.id) rows
-      (weaken (GivesAgain columns) (λ x. test (placed columns x).row ≡ is_one_id id x.id) rows (λ x same. ap (λ (s : StoredRow). is_one_id id s.id) same) again) in
+    (weaken (GivesAgain columns) (λ x. test (placed columns x).row ≡ is_one_id id x.id) rows (λ x same. ap (λ (s : StoredRow). is_one_id id s.id) same) again) in
     ap duplicate (first ∙ second ∙ ap (λ o. option_map (λ (p : PlacedRow). p.row) o) (third ∙ ap (λ o. option_map (placed columns) o) fourth))
     ∙ same_twice columns (find (λ x. is_one_id id x.id) rows)
     ∙ by_text rows id

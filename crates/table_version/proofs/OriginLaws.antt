@@ -5,16 +5,15 @@ use Rattle.std.specs.List.{list_all, AllByRecursion}
 use Rattle.std.specs.Option.{option_map}
 use Rattle.std.proofs.lemmas.Bool.{and_parts}
 use Rattle.vec_base.specs.declared.value.Value.{Value}
-use Rattle.row_model.specs.Schemas.{count_of, is_key, has_some, is_metadata, is_auxiliary, IsValidSchema}
+use Rattle.row_model.specs.Schemas.{count_of, is_key, has_some, is_metadata, is_auxiliary}
 use Rattle.row_model.specs.Valid.{is_valid_row}
-use Rattle.row_model.specs.declared.row.Row.{Row}
 use Rattle.row_model.specs.declared.schema.Column.{Column}
 use Rattle.row_model.specs.declared.schema.Schema.{Schema}
 use Rattle.row_model.proofs.SchemaLaws.{faultless}
 use Rattle.row_store.specs.StoredRows.{StoredRow, row_of as stored_of, row_at as stored_at}
-use Rattle.row_store.specs.Touches.{StoreState, Touches, is_touched_place, is_touched_row, Follows as FollowsStored, KeepsOrigin as KeepsStored}
+use Rattle.row_store.specs.Touches.{StoreState, Follows as FollowsStored, KeepsOrigin as KeepsStored}
 use Rattle.shadow_records.specs.PlacedTables.{PlacedRow, PlacedTable, IsPlaced, plain_rows, row_at, row_of}
-use Rattle.table_version.specs.Versions.{IsPlainSchema, VersionState, Follows, KeepsOrigin}
+use Rattle.table_version.specs.Versions.{IsPlainSchema, Follows, KeepsOrigin}
 use Rattle.table_version.specs.inner.StoredTables.{placed, placed_rows, stored, table_from, version_of, GivesAgain}
 use Rattle.table_version.proofs.StoredLaws.{found-one, placed-of, placed-at}
 use Rattle.table_version.proofs.WeavingLaws.{woven-back}

@@ -1,6 +1,6 @@
 -- What a store asks of a row that is put, where nothing refuses it.
-use Rattle.std.proofs.Common.{◌≡◌, ℕ, ℤ, ◌+◌, ◌-◌, ◌<◌, ◌≤◌, ◌^◌, Bool, true, false, List, [], ◌∷◌, ◌++◌, ◌∙◌, refl, sym, ap, ap₂, subst, arith, map, length, Option, Some, None}
-use Rattle.std.specs.Prelude.{find, is_some, sum_by, nat_lt, FitsSigned}
+use Rattle.std.proofs.Common.{◌≡◌, ℕ, ℤ, ◌+◌, ◌-◌, ◌<◌, ◌^◌, true, false, List, [], ◌∷◌, ◌++◌, ◌∙◌, refl, sym, ap, ap₂, subst, arith, map, length, Option, Some, None}
+use Rattle.std.specs.Prelude.{is_some, sum_by, FitsSigned}
 use Rattle.std.specs.Int.{w64}
 use Rattle.std.specs.Option.{option_map, option_or}
 use Rattle.std.proofs.lemmas.Bool.{leb-true}
@@ -12,7 +12,6 @@ use Rattle.row_model.specs.Change.{assigned, keyed, larger, spent, taken_id, tak
 use Rattle.row_model.specs.Limits.{over_rows}
 use Rattle.row_model.specs.RefusalOrder.{first}
 use Rattle.row_model.specs.RepresentableStatements.{AreRepresentable}
-use Rattle.row_model.specs.Valid.{IsValidTable}
 use Rattle.row_model.specs.Values.{side_bytes}
 use Rattle.row_model.specs.declared.schema.Column.{Column}
 use Rattle.row_model.specs.declared.schema.Schema.{Schema}
@@ -21,12 +20,12 @@ use Rattle.row_store.specs.StoredRows.{StoredRow, rowid_of, row_of as stored_of,
 use Rattle.row_store.specs.Touches.{StoreState, IsPut, HasSameShape, KeepsOrigin as KeepsStored}
 use Rattle.shadow_records.specs.PlacedTables.{partition_of, plain, plain_rows}
 use Rattle.table_version.specs.Inserting.{are_fitting, insert_refusals, new_row, IsInserted}
-use Rattle.table_version.specs.Kept.{id_in, widths_of}
+use Rattle.table_version.specs.Kept.{id_in}
 use Rattle.table_version.specs.Versions.{VersionState, KeepsOrigin}
 use Rattle.table_version.specs.inner.Refusing.{given_taken, taken_text, twice}
-use Rattle.table_version.specs.inner.StoredTables.{placed, placed_rows, table_from, version_of, GivesAgain, IsSound}
+use Rattle.table_version.specs.inner.StoredTables.{placed_rows, table_from, version_of, IsSound}
 use Rattle.table_version.proofs.ByteLaws.{row-bytes}
-use Rattle.table_version.proofs.GivenLaws.{AreKeyedWell, keyed-well}
+use Rattle.table_version.proofs.GivenLaws.{keyed-well}
 use Rattle.table_version.proofs.InsertLaws.{has_rowid-stored, not-refused, taken_id-stored, taken_rowid-stored}
 use Rattle.table_version.proofs.OriginLaws.{keeps-origin}
 use Rattle.table_version.proofs.SoundLaws.{IsGiven, inserted, sides_fit, sound-put}
@@ -66,9 +65,9 @@ first_refusal name schema top store sides rowid values sound fits =
     let d = over_rows (length rows + 1) in
     first_both (a ++ b ++ s) d
     ∙ ap₂ (λ (x y : Option Refusal). option_or x y)
-      (first_both (a ++ b) s ∙ ap (λ (x : Option Refusal). option_or x (first s)) (first_both a b
-        ∙ ap₂ (λ (x y : Option Refusal). option_or x y) (ap first (taken_rowid-stored columns rowid store.rows)) (ap first (id_refused name schema top store sides (assigned top rowid) values sound fits))))
-      (ap (λ (n : ℕ). first (over_rows (n + 1))) (same_length columns store.rows))
+    (first_both (a ++ b) s ∙ ap (λ (x : Option Refusal). option_or x (first s)) (first_both a b
+    ∙ ap₂ (λ (x y : Option Refusal). option_or x y) (ap first (taken_rowid-stored columns rowid store.rows)) (ap first (id_refused name schema top store sides (assigned top rowid) values sound fits))))
+    (ap (λ (n : ℕ). first (over_rows (n + 1))) (same_length columns store.rows))
 
 pub rows_few : (name : List ℕ) (schema : Schema) (top : ℤ) (store : StoreState) (sides : ℕ) → IsSound name schema top store sides → length store.rows + 1 < 2 ^ 64
 rows_few name schema top store sides sound =
@@ -179,7 +178,7 @@ made_inserted v name schema top old new sides made after rowid values view m don
     let after_is : after ≡ larger top (assigned top rowid) = is ∙ ap (λ (n : ℤ). larger top n) m.is in
     subst (λ (w : VersionState). IsInserted w.table (table_from name schema after new.rows) (new_row (plain w.table) rowid values)) view
     (subst (λ (t : ℤ). IsInserted (table_from name schema top old.rows) (table_from name schema t new.rows) (new_row (plain (table_from name schema top old.rows)) rowid values)) (sym after_is)
-      (inserted name schema top old new sides rowid values m.given put))
+    (inserted name schema top old new sides rowid values m.given put))
 
 pub made_origin : (v : VersionState) (name : List ℕ) (schema : Schema) (top after : ℤ) (old new : StoreState) (sides : ℕ) → version_of name schema top old ≡ v → IsSound name schema top old sides → KeepsStored old new →
     KeepsOrigin v (version_of name schema after new)

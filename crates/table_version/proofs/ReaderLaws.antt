@@ -1,13 +1,13 @@
 -- What readers of a store tell of the table.
-use Rattle.std.proofs.Common.{◌≡◌, ℕ, suc, ℤ, ◌<◌, Bool, true, false, List, [], ◌∷◌, ◌∙◌, refl, sym, ap, ap₂, subst, length, map, Option, Some, None}
+use Rattle.std.proofs.Common.{◌≡◌, ℕ, suc, ℤ, ◌<◌, true, List, [], ◌∷◌, ◌∙◌, refl, sym, ap, length, Option, Some, None}
 use Rattle.std.specs.Prelude.{◌==◌, find, is_some, IfSome, MatchOption}
 use Rattle.std.specs.List.{AllByRecursion}
 use Rattle.std.specs.Option.{option_map}
-use Rattle.chunk_slots.specs.Slots.{Slots, UsedSlot, slot_at}
+use Rattle.chunk_slots.specs.Slots.{Slots, slot_at}
 use Rattle.row_model.specs.declared.schema.Column.{Column}
 use Rattle.row_store.specs.Shown.{held_of}
-use Rattle.row_store.specs.StoredRows.{StoredRow, lies_at, rowid_of, row_of as stored_of, row_at as stored_at, first_in as first_stored, row_with_id as stored_with_id, next_row as next_stored}
-use Rattle.shadow_records.specs.PlacedTables.{PlacedRow, first_in, row_at, row_of}
+use Rattle.row_store.specs.StoredRows.{StoredRow, lies_at, rowid_of, row_at as stored_at, first_in as first_stored, row_with_id as stored_with_id, next_row as next_stored}
+use Rattle.shadow_records.specs.PlacedTables.{first_in, row_at}
 use Rattle.table_version.specs.Inserting.{partition_in}
 use Rattle.table_version.specs.Versions.{next_row, row_with_id, rowid_in, slot_of_row}
 use Rattle.table_version.specs.inner.StoredTables.{placed, placed_rows, GivesAgain}

@@ -1,22 +1,18 @@
 -- A row less: the bytes of its texts, and what stays.
-use Rattle.std.proofs.Common.{◌≡◌, ℕ, ℤ, ◌+◌, ◌-◌, ◌<◌, ◌≤◌, ◌^◌, Bool, true, false, List, [], ◌∷◌, ◌∙◌, refl, sym, ap, subst, arith, map, length, Option, Some, None}
+use Rattle.std.proofs.Common.{◌≡◌, ℕ, ℤ, ◌+◌, ◌-◌, ◌<◌, ◌≤◌, ◌^◌, false, List, ◌∙◌, refl, sym, ap, subst, arith, Option, Some, None}
 use Rattle.std.specs.Prelude.{find, is_some, sum_by}
-use Rattle.std.specs.List.{list_all, AllByRecursion}
 use Rattle.std.specs.Option.{option_map}
 use Rattle.std.specs.Ordering.{int_eq}
-use Rattle.vec_base.specs.declared.value.Value.{Value}
 use Rattle.row_model.specs.Change.{rows_side_bytes}
-use Rattle.row_model.specs.Rows.{has_rowid}
 use Rattle.row_model.specs.Values.{row_side_bytes, side_bytes}
 use Rattle.row_model.specs.declared.row.Row.{Row}
-use Rattle.row_model.specs.declared.row.Table.{Table}
 use Rattle.row_model.specs.declared.schema.Column.{Column}
 use Rattle.row_model.specs.declared.schema.Schema.{Schema}
 use Rattle.row_model.proofs.SchemaLaws.{faultless}
 use Rattle.row_store.specs.StoredRows.{StoredRow, row_of as stored_of, without as without_stored}
 use Rattle.row_store.specs.Touches.{StoreState, HasSameShape}
-use Rattle.shadow_records.specs.PlacedTables.{PlacedRow, PlacedTable, plain, plain_rows, row_of}
-use Rattle.table_version.specs.PlacedRows.{without_placed, table_without}
+use Rattle.shadow_records.specs.PlacedTables.{PlacedRow, plain, plain_rows, row_of}
+use Rattle.table_version.specs.PlacedRows.{table_without}
 use Rattle.table_version.specs.Versions.{VersionState}
 use Rattle.table_version.specs.inner.StoredTables.{placed, placed_rows, table_from, version_of, GivesAgain, IsSound}
 use Rattle.table_version.specs.inner.StoredBytes.{id_side, stored_bytes, bytes_at}
@@ -57,8 +53,8 @@ bytes_left : (name : List ℕ) (schema : Schema) (top : ℤ) (store : StoreState
 bytes_left name schema top store sides i sound = by_found (stored_of i store.rows) refl where
   by_found : (o : Option StoredRow) → stored_of i store.rows ≡ o → bytes_at o + rows_side_bytes (without i (plain_rows (placed_rows schema.columns store.rows))) ≡ sides
   by_found None e =
-    let same : rows_side_bytes (without i (plain_rows (placed_rows schema.columns store.rows))) ≡ sides = ap rows_side_bytes (without-none i (plain_rows (placed_rows schema.columns store.rows)) (has_rowid-stored schema.columns i store.rows ∙ none_some (stored_of i store.rows) e)) ∙ sym sound.sides in
-    omega (arith, same)
+      let same : rows_side_bytes (without i (plain_rows (placed_rows schema.columns store.rows))) ≡ sides = ap rows_side_bytes (without-none i (plain_rows (placed_rows schema.columns store.rows)) (has_rowid-stored schema.columns i store.rows ∙ none_some (stored_of i store.rows) e)) ∙ sym sound.sides in
+      omega (arith, same)
   by_found (Some s) e =
       let whole = side_bytes-without i (plain_rows (placed_rows schema.columns store.rows)) (placed schema.columns s).row sound.placed.valid.rising (plain_found schema.columns store.rows i s e) in
       let one = row_bytes name schema top store sides i s sound e in
@@ -79,8 +75,8 @@ less_sound name schema top old new sides i sound is shape =
     let columns = schema.columns in
     let left = bytes_left name schema top old sides i sound in
     let rest : rows_side_bytes (plain_rows (placed_rows columns new.rows)) ≡ rows_side_bytes (without i (plain_rows (placed_rows columns old.rows))) =
-      ap (λ (rs : List StoredRow). rows_side_bytes (plain_rows (placed_rows columns rs))) is ∙ ap (λ (ps : List PlacedRow). rows_side_bytes (plain_rows ps)) (placed-without columns i old.rows)
-      ∙ ap rows_side_bytes (plain-without i (placed_rows columns old.rows)) in
+    ap (λ (rs : List StoredRow). rows_side_bytes (plain_rows (placed_rows columns rs))) is ∙ ap (λ (ps : List PlacedRow). rows_side_bytes (plain_rows ps)) (placed-without columns i old.rows)
+    ∙ ap rows_side_bytes (plain-without i (placed_rows columns old.rows)) in
     sound-without name schema top i old new sides (sides - bytes_at (stored_of i old.rows)) sound is shape (omega (arith, left, rest))
 
 pub less_table : (v : VersionState) (name : List ℕ) (schema : Schema) (top : ℤ) (old new : StoreState) (i : ℤ) → version_of name schema top old ≡ v → new.rows ≡ without_stored i old.rows →

@@ -1,18 +1,17 @@
 -- The place that a new row takes in a table: its number is small, it is free, and its chunk has the row's partition values.
-use Rattle.std.proofs.Common.{◌≡◌, ℕ, zero, suc, ◌+◌, ◌-◌, ◌<◌, ◌≤◌, ◌^◌, Bool, true, false, cond, List, [], ◌∷◌, ◌∙◌, refl, sym, ap, subst, arith, length, Option, Some, None}
-use Rattle.std.specs.Prelude.{◌==◌, ◌&&◌, not, find, filter, nat_lt, is_some, if◌then◌else◌}
+use Rattle.std.proofs.Common.{◌≡◌, ℕ, zero, suc, ◌+◌, ◌<◌, ◌≤◌, ◌^◌, Bool, true, false, cond, List, [], ◌∷◌, ◌∙◌, refl, sym, ap, subst, arith, length, Option, Some, None}
+use Rattle.std.specs.Prelude.{◌==◌, ◌&&◌, not, filter, nat_lt, is_some}
 use Rattle.std.specs.List.{list_all, AllByRecursion}
 use Rattle.std.specs.Option.{option_map}
-use Rattle.std.proofs.lemmas.Bool.{and_parts, and_from, eqb-true, eq-eqb, ltb-true, lt-ltb}
+use Rattle.std.proofs.lemmas.Bool.{and_parts, and_from, eqb-true, ltb-true, lt-ltb}
 use Rattle.vec_base.specs.declared.limits.TheConstants.{MOST_ROWS}
 use Rattle.vec_base.specs.declared.value.Value.{Value}
 use Rattle.row_model.specs.declared.row.Row.{Row}
-use Rattle.row_model.specs.declared.schema.Column.{Column}
-use Rattle.slot_alloc.specs.Places.{PlaceMap, has_chunk, is_used, partition_at, partition_of_chunk}
+use Rattle.slot_alloc.specs.Places.{PlaceMap, has_chunk}
 use Rattle.slot_alloc.specs.SlotRule.{IsPlaceFor, chunk_of, slot_of}
 use Rattle.slot_alloc.specs.declared.place.Place.{Place}
 use Rattle.slot_alloc.specs.declared.place.Place.TheVariants.{Slot, NewChunk}
-use Rattle.shadow_records.specs.PlacedTables.{PlacedRow, PlacedTable, IsPlaced, AreAlike, AreApart, first_in, is_place, partition_of, plain, row_at}
+use Rattle.shadow_records.specs.PlacedTables.{PlacedRow, PlacedTable, IsPlaced, AreAlike, AreApart, first_in, is_place, partition_of, row_at}
 use Rattle.table_version.specs.Inserting.{ArePlacesOf, partition_in}
 use Rattle.table_version.proofs.PlacedLaws.{apart-from, alike-from}
 

@@ -1,5 +1,5 @@
 -- A sound store stays one: with no rows, with one row more, and with one row less.
-use Rattle.std.proofs.Common.{◌≡◌, ℕ, ℤ, pos, ◌+◌, ◌<◌, ◌≤◌, ◌^◌, Bool, true, false, List, [], ◌∷◌, ◌∙◌, refl, sym, ap, ap₂, subst, arith, length, Option, Some, None}
+use Rattle.std.proofs.Common.{◌≡◌, ℕ, ℤ, pos, ◌+◌, ◌<◌, ◌≤◌, ◌^◌, true, false, List, [], ◌∷◌, ◌∙◌, refl, sym, ap, subst, arith, length, Option}
 use Rattle.std.specs.Prelude.{◌==◌, find, sum_by, nat_lt, FitsSigned}
 use Rattle.std.specs.Int.{w64}
 use Rattle.std.specs.List.{All, AllByRecursion}
@@ -10,16 +10,13 @@ use Rattle.vec_base.specs.declared.value.Value.{Value}
 use Rattle.chunk_slots.specs.Slots.{vectors_of}
 use Rattle.row_model.specs.Change.{assigned, keyed, larger, rows_side_bytes, same_id}
 use Rattle.row_model.specs.RepresentableStatements.{AreRepresentable}
-use Rattle.row_model.specs.Rows.{has_rowid, with_row as with_plain}
 use Rattle.row_model.specs.Schemas.{count_of, is_key, IsValidSchema}
-use Rattle.row_model.specs.Valid.{is_valid_row}
 use Rattle.row_model.specs.Values.{row_side_bytes, side_bytes}
 use Rattle.row_model.specs.declared.row.Row.{Row}
-use Rattle.row_model.specs.declared.row.Table.{Table}
 use Rattle.row_model.specs.declared.schema.Column.{Column}
 use Rattle.row_model.specs.declared.schema.Schema.{Schema}
 use Rattle.row_model.proofs.SchemaLaws.{faultless}
-use Rattle.row_store.specs.StoredRows.{StoredRow, PlacesAre, lies_at, with_row, without}
+use Rattle.row_store.specs.StoredRows.{StoredRow, PlacesAre, lies_at, without}
 use Rattle.row_store.specs.Touches.{StoreState, IsChunkShape, IsPut, HasSameShape}
 use Rattle.slot_alloc.specs.Places.{PlaceMap}
 use Rattle.slot_alloc.specs.SlotRule.{IsPlaceFor, chunk_of, slot_of}
@@ -27,14 +24,14 @@ use Rattle.slot_alloc.specs.declared.place.Place.{Place}
 use Rattle.shadow_records.specs.PlacedTables.{PlacedRow, PlacedTable, IsPlaced, partition_of, plain, plain_rows}
 use Rattle.table_version.specs.Inserting.{are_fitting, insert_refusals, new_row, partition_in, ArePlacesOf, IsInserted}
 use Rattle.table_version.specs.Kept.{id_in, widths_of}
-use Rattle.table_version.specs.PlacedRows.{with_placed, without_placed, table_with, table_without}
+use Rattle.table_version.specs.PlacedRows.{with_placed, table_with, table_without}
 use Rattle.table_version.specs.Versions.{IsPlainSchema}
-use Rattle.table_version.specs.inner.StoredTables.{placed, placed_rows, stored, table_from, GivesAgain, IsSound}
+use Rattle.table_version.specs.inner.StoredTables.{placed_rows, stored, table_from, GivesAgain, IsSound}
 use Rattle.table_version.specs.inner.Weaving.{woven}
 use Rattle.table_version.proofs.ByteLaws.{side_bytes-fit, side_bytes-with}
 use Rattle.table_version.proofs.GivenLaws.{AreKeyedWell, keyed-well, keyed-representable}
-use Rattle.table_version.proofs.InsertLaws.{IsWelcome, none_twice, not-refused}
-use Rattle.table_version.proofs.PlacedLaws.{IsPlacedNew, plain-with, plain-without, placed-with as table-with, placed-without as table-less}
+use Rattle.table_version.proofs.InsertLaws.{none_twice, not-refused}
+use Rattle.table_version.proofs.PlacedLaws.{IsPlacedNew, plain-with, placed-with as table-with, placed-without as table-less}
 use Rattle.table_version.proofs.RoomLaws.{HasPlace, new_place, new_apart, new_alike}
 use Rattle.table_version.proofs.SchemaShape.{chunk-size}
 use Rattle.table_version.proofs.StoredLaws.{all-with, all-without, placed-at, placed-first, placed-with, placed-without, same_partition}
@@ -147,8 +144,8 @@ table_put name schema top old new sides rowid values given put =
     let well = keyed-well columns made values given.fits in
     let s = stored_row made (chunk_of put.place) (slot_of put.place) (id_in columns values) (partition_of columns values) (vectors_of values) in
     let rows = ap (λ (rs : List StoredRow). placed_rows columns rs) put.rows ∙ placed-with columns s old.rows
-      ∙ ap (λ (vs : List Value). with_placed (row_at_place made (chunk_of put.place) (slot_of put.place) vs) (placed_rows columns old.rows))
-        (weave schema made values given.sound.placed.valid.schema given.sound.plain well) in
+    ∙ ap (λ (vs : List Value). with_placed (row_at_place made (chunk_of put.place) (slot_of put.place) vs) (placed_rows columns old.rows))
+    (weave schema made values given.sound.placed.valid.schema given.sound.plain well) in
     ap (λ (ps : List PlacedRow). table_of name schema (larger top made) ps) rows
   where
     table_of : List ℕ → Schema → ℤ → List PlacedRow → PlacedTable
@@ -171,7 +168,7 @@ sides_put : (old new : PlacedTable) (p : PlacedRow) (bytes more : ℕ) → new �
     bytes + more ≡ rows_side_bytes (plain_rows new.rows)
 sides_put old new p bytes more is before one =
     let whole : rows_side_bytes (plain_rows new.rows) ≡ row_side_bytes p.row + rows_side_bytes (plain_rows old.rows) =
-      ap (λ (t : PlacedTable). rows_side_bytes (plain_rows t.rows)) is ∙ ap rows_side_bytes (plain-with p old.rows) ∙ side_bytes-with p.row (plain_rows old.rows) in
+    ap (λ (t : PlacedTable). rows_side_bytes (plain_rows t.rows)) is ∙ ap rows_side_bytes (plain-with p old.rows) ∙ side_bytes-with p.row (plain_rows old.rows) in
     omega (arith, whole, before, one)
 
 pub sound-put : (name : List ℕ) (schema : Schema) (top : ℤ) (old new : StoreState) (sides : ℕ) (rowid : Option ℤ) (values : List Value) →

@@ -1,20 +1,18 @@
 -- Stored rows and the rows of a table: what is found among the ones is found among the others.
 use Rattle.std.proofs.Common.{◌≡◌, ℕ, ℤ, Bool, true, false, cond, List, [], ◌∷◌, ◌∙◌, refl, sym, ap, ap₂, subst, map, Option, Some, None}
-use Rattle.std.specs.Prelude.{◌==◌, ◌&&◌, int_lt, not, find, filter, if◌then◌else◌}
+use Rattle.std.specs.Prelude.{◌==◌, ◌&&◌, int_lt, not, find, if◌then◌else◌}
 use Rattle.std.specs.List.{AllByRecursion}
 use Rattle.std.specs.Option.{option_map}
 use Rattle.std.specs.Ordering.{int_eq}
 use Rattle.std.proofs.lemmas.Bool.{eqb-true, eq-eqb}
-use Rattle.vec_base.specs.declared.value.Value.{Value}
 use Rattle.row_model.specs.declared.schema.Column.{Column}
-use Rattle.row_store.specs.Keyed.{with_keyed, without_key}
 use Rattle.row_store.specs.StoredRows.{StoredRow, has_text, is_above, lies_at, rowid_of, row_of as stored_of, row_at as stored_at, first_in as first_stored, row_with_id as stored_with_id, next_row as next_stored, with_row, without}
-use Rattle.shadow_records.specs.PlacedTables.{PlacedRow, is_at, row_at, row_of, first_in, partition_of}
+use Rattle.shadow_records.specs.PlacedTables.{PlacedRow, is_at, row_at, row_of, first_in}
 use Rattle.table_version.specs.Kept.{id_in}
 use Rattle.table_version.specs.PlacedRows.{with_placed, without_placed}
 use Rattle.table_version.specs.Versions.{rowid_in, next_row, row_with_id}
 use Rattle.table_version.specs.Inserting.{partition_in}
-use Rattle.table_version.specs.inner.StoredTables.{placed, placed_rows, stored, GivesAgain}
+use Rattle.table_version.specs.inner.StoredTables.{placed, placed_rows, GivesAgain}
 
 -- ---- lists of other elements, and other tests
 
@@ -62,7 +60,7 @@ pub placed-at : (columns : List Column) (rows : List StoredRow) (c s : ℕ) → 
 placed-at columns rows c s =
     find-map (placed columns) (is_at c s) rows
     ∙ ap (λ o. option_map (placed columns) o) (find-alike (λ x. is_at c s (placed columns x)) (lies_at c s) rows
-      (each _ rows (λ x. ap₂ (λ (a b : Bool). a && b) (eq_turned x.chunk c) (eq_turned x.slot s))))
+    (each _ rows (λ x. ap₂ (λ (a b : Bool). a && b) (eq_turned x.chunk c) (eq_turned x.slot s))))
 
 pub placed-first : (columns : List Column) (rows : List StoredRow) (c : ℕ) → first_in (placed_rows columns rows) c ≡ option_map (placed columns) (first_stored rows c)
 placed-first columns rows c =
@@ -83,7 +81,7 @@ pub placed-with_id : (columns : List Column) (rows : List StoredRow) (id : List 
 placed-with_id columns rows id again =
     find-map (placed columns) (λ p. has_text id (id_in columns p.row.values)) rows
     ∙ ap (λ o. option_map (placed columns) o) (find-alike (λ x. has_text id (id_in columns (placed columns x).row.values)) (λ x. has_text id x.id) rows
-      (weaken (GivesAgain columns) (λ x. has_text id (id_in columns (placed columns x).row.values) ≡ has_text id x.id) rows (λ x same. ap (has_text id) (again_id columns x same)) again))
+    (weaken (GivesAgain columns) (λ x. has_text id (id_in columns (placed columns x).row.values) ≡ has_text id x.id) rows (λ x same. ap (has_text id) (again_id columns x same)) again))
 
 -- ---- the rowids and the partition values of what is found
 

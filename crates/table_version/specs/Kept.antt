@@ -1,14 +1,13 @@
 -- What is kept of the values of a row: the text id, partition values and vectors.
-use Rattle.std.specs.Prelude.{ℕ, ◌/◌, ℤ, Bool, true, false, ◌||◌, if◌then◌else◌, List, [], ◌∷◌, bytes_eq, Option, Some, None}
+use Rattle.std.specs.Prelude.{ℕ, ◌/◌, Bool, false, ◌||◌, if◌then◌else◌, List, [], ◌∷◌, bytes_eq, Option, Some, None}
 use Rattle.std.specs.List.{filter_map}
 use Rattle.vec_base.specs.declared.value.Value.{Value}
-use Rattle.vec_base.specs.declared.value.Value.TheVariants.{Null, Int, Text, Int8, Bits}
+use Rattle.vec_base.specs.declared.value.Value.TheVariants.{Text}
 use Rattle.row_model.specs.ColumnNames.{is_text_key}
-use Rattle.row_model.specs.Schemas.{is_partition, is_vector}
 use Rattle.row_model.specs.Values.{is_int, is_text}
 use Rattle.row_model.specs.declared.schema.Column.{Column}
 use Rattle.row_model.specs.declared.schema.Kind.{Kind}
-use Rattle.row_model.specs.declared.schema.Kind.TheVariants.{IntKey, TextKey, Int8Vector, BitVector, IntPartition, TextPartition}
+use Rattle.row_model.specs.declared.schema.Kind.TheVariants.{Int8Vector, BitVector}
 
 -- the text that a value is, if it is one
 abbrev pub text_in : Value → Option (List ℕ)

@@ -134,13 +134,7 @@ impl TableVersion {
         requires { are_fitting self.now.table.schema.columns values.now ≡ true }
         ensures { result ≡ first (insert_refusals (plain self.now.table) rowid.now values.now) }
     {
-        first_refusal(
-            &self.rows,
-            &self.schema.columns,
-            &self.top,
-            rowid,
-            values,
-        )
+        first_refusal(&self.rows, &self.schema.columns, &self.top, rowid, values)
     }
 
     /// The rowid of a new row: the one that is given, or the one above the top.

@@ -1,11 +1,8 @@
 -- How a row's values are put together from what is kept of it: its rowid, its text id, its partition values and its vectors.
-use Rattle.std.specs.Prelude.{ℕ, ◌/◌, ℤ, Bool, true, false, ◌||◌, if◌then◌else◌, List, [], ◌∷◌, bytes_eq, Option, Some, None}
-use Rattle.std.specs.List.{filter_map}
+use Rattle.std.specs.Prelude.{ℕ, ℤ, Bool, true, false, List, [], ◌∷◌, Option, Some, None}
 use Rattle.vec_base.specs.declared.value.Value.{Value}
 use Rattle.vec_base.specs.declared.value.Value.TheVariants.{Null, Int, Text, Int8, Bits}
-use Rattle.row_model.specs.ColumnNames.{is_text_key}
 use Rattle.row_model.specs.Schemas.{is_partition, is_vector}
-use Rattle.row_model.specs.Values.{is_int, is_text}
 use Rattle.row_model.specs.declared.schema.Column.{Column}
 use Rattle.row_model.specs.declared.schema.Kind.{Kind}
 use Rattle.row_model.specs.declared.schema.Kind.TheVariants.{IntKey, TextKey, Int8Vector, BitVector, IntPartition, TextPartition}

@@ -1,13 +1,11 @@
-use Rattle.std.proofs.Common.{rules, ◌≡◌, ◌+◌, ◌<◌, ◌^◌, ℕ, ℤ, List, None, arith, ap, sym, subst, ◌∙◌, w64, SFits, FitsSigned}
+use Rattle.std.proofs.Common.{rules, ◌≡◌, ◌+◌, ◌<◌, ◌^◌, ℕ, ℤ, None, sym, subst, ◌∙◌, w64, SFits, FitsSigned}
 use Rattle.std.specs.Prelude.{sum_by}
 use Rattle.std.proofs.lemmas.Int.{to_z-of_z}
 use Rattle.row_model.specs.Change.{larger}
 use Rattle.row_model.specs.Values.{side_bytes}
 use Rattle.row_store.specs.StoredRows.{row_of}
-use Rattle.table_version.specs.Versions.{VersionState}
-use Rattle.table_version.specs.Inserting.{are_fitting}
 use Rattle.table_version.specs.inner.StoredTables.{IsSound}
-use Rattle.table_version.proofs.PutLaws.{IsMade, IsDone, made_of, made_sound, made_inserted, made_origin, put_fresh, put_own, put_widths, put_few, values_short}
+use Rattle.table_version.proofs.PutLaws.{IsDone, made_of, made_sound, made_inserted, made_origin, put_fresh, put_own, put_widths, put_few, values_short}
 use Rattle.table_version.proofs.SoundLaws.{sides_fit}
 use Rattle.table_version.proofs.table.TableVersion.add.Goals as goal
 

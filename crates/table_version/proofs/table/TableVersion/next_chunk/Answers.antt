@@ -1,4 +1,3 @@
-use Rattle.std.proofs.Common.{rules, ◌≡◌}
 use Rattle.table_version.proofs.ReaderLaws.{next_after}
 use Rattle.table_version.proofs.table.TableVersion.next_chunk.Goals as goal
 

@@ -1,4 +1,4 @@
-use Rattle.std.proofs.Common.{rules, ◌≡◌, ◌∙◌}
+use Rattle.std.proofs.Common.{◌∙◌}
 use Rattle.table_version.proofs.ReaderLaws.{partition_of_first}
 use Rattle.table_version.proofs.table.TableVersion.partition.Goals as goal
 

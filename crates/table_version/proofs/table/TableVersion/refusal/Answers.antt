@@ -1,4 +1,4 @@
-use Rattle.std.proofs.Common.{rules, ◌≡◌, ◌∙◌, sym, subst, true}
+use Rattle.std.proofs.Common.{◌≡◌, ◌∙◌, sym, subst, true}
 use Rattle.table_version.specs.Inserting.{are_fitting}
 use Rattle.table_version.specs.Versions.{VersionState}
 use Rattle.table_version.proofs.PutLaws.{first_refusal, rows_few}

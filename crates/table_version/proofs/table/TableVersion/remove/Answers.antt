@@ -1,4 +1,4 @@
-use Rattle.std.proofs.Common.{rules, ◌≡◌, ◌-◌, ◌≤◌, ℕ, sym, subst, ◌∙◌}
+use Rattle.std.proofs.Common.{◌-◌, ◌≤◌, ℕ, sym, subst, ◌∙◌}
 use Rattle.table_version.specs.inner.StoredTables.{IsSound}
 use Rattle.table_version.proofs.PutLaws.{made_origin}
 use Rattle.table_version.proofs.RemoveLaws.{bytes_among, bytes_small, less_sound, less_table, was_some}

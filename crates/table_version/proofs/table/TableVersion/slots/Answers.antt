@@ -1,4 +1,4 @@
-use Rattle.std.proofs.Common.{rules, ◌≡◌, ◌∙◌, Some, None}
+use Rattle.std.proofs.Common.{◌∙◌}
 use Rattle.table_version.proofs.ReaderLaws.{there_first, held_all}
 use Rattle.table_version.proofs.table.TableVersion.slots.Goals as goal
 
