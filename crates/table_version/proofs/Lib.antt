@@ -15,4 +15,5 @@ pub mod SoundLaws
 pub mod StoredLaws
 pub mod ValidityLaws
 pub mod VectorBytes
+pub mod ViewLaws
 pub mod WeavingLaws

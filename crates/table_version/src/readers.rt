@@ -3,12 +3,13 @@ ghost use Rattle.std.specs.Prelude.{◌≡◌, ℕ, ◌<◌, true, None, IfOk, I
 ghost use Rattle.std.specs.Option.{option_copied, option_map};
 ghost use Rattle.chunk_slots.specs.Slots.{rowid_of as rowid_in_slot, slot_at};
 ghost use Rattle.row_model.specs.Change.{rows_vector_bytes};
-ghost use Rattle.shadow_records.specs.PlacedTables.{first_in, plain_rows, row_at};
+ghost use Rattle.shadow_records.specs.PlacedTables.{first_in, plain_rows, row_at, row_of};
 ghost use Rattle.table_version.specs.Inserting.{partition_in};
 ghost use Rattle.table_version.specs.Versions.{Follows, next_row, row_with_id, rowid_in, slot_of_row};
 
 use crate::TableVersion;
 use crate::columns::row_bytes;
+use crate::row_view::RowView;
 use chunk_slots::Chunk;
 use std::alloc::Global;
 use vec_base::{List, Memory, Value};
@@ -37,6 +38,20 @@ impl TableVersion {
             (λ c. (after < c) × (is_some (first_in self.now.table.rows c) ≡ true) × ((d : ℕ) → after < d → d < c → first_in self.now.table.rows d ≡ None)) }
     {
         self.rows.next_chunk(after)
+    }
+
+    /// The row of a rowid.
+    #[tactic(auto, using(crate::proofs::ViewLaws::row_there, crate::proofs::ViewLaws::none_there, crate::proofs::ViewLaws::view_sound))]
+    pub fn row(&self, rowid: &i64) -> Option<RowView<'_>>
+        ensures row { row_of self.now.table.rows rowid.now ≡ option_map (λ view. view.placed) result }
+        ensures columns { IfSome result (λ view. view.columns ≡ self.now.table.schema.columns) }
+    {
+        let row = self.rows.row(rowid)?;
+        Some(RowView {
+            rowid: *rowid,
+            row,
+            schema: &self.schema,
+        })
     }
 
     /// The slots of a chunk, where it has a row.
