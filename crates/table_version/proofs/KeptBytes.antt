@@ -24,16 +24,13 @@ use Rattle.table_version.proofs.ByteLaws.{values-small, IsSmall}
 use Rattle.table_version.proofs.KeptLaws.{id-all, id_in-none, partition-all}
 use Rattle.table_version.proofs.WeavingLaws.{bits_shape, fewer_keys, int8_shape, no_id_behind, not_null, number_shape, typed, widths-fit}
 use Rattle.table_version.specs.Kept.{id_in, text_in, widths_of}
+use Rattle.table_version.specs.inner.StoredBytes.{total_width}
 
 -- ---- vectors
 
 -- the bytes of some vectors
 abbrev pub lengths : List (List ℕ) → ℕ
 lengths vectors = sum_by length vectors
-
--- the bytes of the vectors of a row
-abbrev pub total_width : List ℕ → ℕ
-total_width widths = sum_by (λ width. width) widths
 
 lengths_put : (value : Value) (vectors : List (List ℕ)) → lengths (cons_option (vector_of value) vectors) ≡ vector_bytes value + lengths vectors
 lengths_put Null vectors = omega arith

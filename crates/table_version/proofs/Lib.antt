@@ -14,4 +14,6 @@ pub mod SchemaShape
 pub mod SoundLaws
 pub mod StoredLaws
 pub mod ValidityLaws
+pub mod VectorBytes
+pub mod ViewLaws
 pub mod WeavingLaws

@@ -167,7 +167,7 @@ text_is_key IntAux h = absurd cc
 text_is_key TextAux h = absurd cc
 text_is_key BlobAux h = absurd cc
 
-abbrev one_if : Bool → ℕ
+abbrev pub one_if : Bool → ℕ
 one_if b = cond b 1 0
 
 keys_step : (column : Column) (columns : List Column) → count_of is_key (column ∷ columns) ≡ one_if (is_key column.kind) + count_of is_key columns
@@ -304,7 +304,7 @@ widths-fit (column ∷ columns) rowid (value ∷ values) no_metadata no_auxiliar
 vectors_step : (column : Column) (columns : List Column) → count_of is_vector (column ∷ columns) ≡ one_if (is_vector column.kind) + count_of is_vector columns
 vectors_step column columns = sum_by-cons (λ (c : Column). one_if (is_vector c.kind)) column columns
 
-one_width : (kind : Kind) (widths : List ℕ) → length (cons_option (vector_width kind) widths) ≡ one_if (is_vector kind) + length widths
+pub one_width : (kind : Kind) (widths : List ℕ) → length (cons_option (vector_width kind) widths) ≡ one_if (is_vector kind) + length widths
 one_width (Int8Vector width metric) widths = omega arith
 one_width (BitVector width) widths = omega arith
 one_width IntKey widths = omega arith

@@ -1,6 +1,7 @@
 //! What columns say of the vectors of a row.
-ghost use Rattle.std.specs.Prelude.{◌≡◌, ◌++◌, IfOk, OnOk};
+ghost use Rattle.std.specs.Prelude.{◌≡◌, ◌++◌, ◌<◌, ◌^◌, IfOk, OnOk};
 ghost use Rattle.table_version.specs.Kept.{vector_width, widths_of};
+ghost use Rattle.table_version.specs.inner.StoredBytes.{total_width};
 
 use row_model::{Column, Kind};
 use std::alloc::Global;
@@ -37,4 +38,17 @@ pub(crate) fn widths_of(alloc: Global, columns: &[Column]) -> Result<List<u16>, 
     let mut widths = List::new(alloc);
     add_widths(columns, &mut widths)?;
     Ok(widths)
+}
+
+/// The bytes of the vectors of a row.
+#[tactic(auto, using(crate::proofs::VectorBytes::width_step))]
+pub(crate) fn row_bytes(columns: &[Column]) -> u64
+    requires { total_width (widths_of columns.now) < 2 ^ 64 }
+    ensures { result ≡ total_width (widths_of columns.now) }
+{
+    let Some((column, columns)) = columns.split_first() else {
+        return 0;
+    };
+    let width = vector_width(column.kind).unwrap_or(0);
+    u64::from(width) + row_bytes(columns)
 }

@@ -6,6 +6,8 @@ mod given;
 mod insert;
 mod readers;
 mod remove;
+mod row_view;
 mod table;
 
+pub use row_view::RowView;
 pub use table::TableVersion;

@@ -2,11 +2,14 @@
 ghost use Rattle.std.specs.Prelude.{◌≡◌, ℕ, ◌<◌, true, None, IfOk, IfSome, MatchOption, is_some};
 ghost use Rattle.std.specs.Option.{option_copied, option_map};
 ghost use Rattle.chunk_slots.specs.Slots.{rowid_of as rowid_in_slot, slot_at};
-ghost use Rattle.shadow_records.specs.PlacedTables.{first_in, row_at};
+ghost use Rattle.row_model.specs.Change.{rows_vector_bytes};
+ghost use Rattle.shadow_records.specs.PlacedTables.{first_in, plain_rows, row_at, row_of};
 ghost use Rattle.table_version.specs.Inserting.{partition_in};
 ghost use Rattle.table_version.specs.Versions.{Follows, next_row, row_with_id, rowid_in, slot_of_row};
 
 use crate::TableVersion;
+use crate::columns::row_bytes;
+use crate::row_view::RowView;
 use chunk_slots::Chunk;
 use std::alloc::Global;
 use vec_base::{List, Memory, Value};
@@ -37,6 +40,20 @@ impl TableVersion {
         self.rows.next_chunk(after)
     }
 
+    /// The row of a rowid.
+    #[tactic(auto, using(crate::proofs::ViewLaws::row_there, crate::proofs::ViewLaws::none_there, crate::proofs::ViewLaws::view_sound))]
+    pub fn row(&self, rowid: &i64) -> Option<RowView<'_>>
+        ensures row { row_of self.now.table.rows rowid.now ≡ option_map (λ view. view.placed) result }
+        ensures columns { IfSome result (λ view. view.columns ≡ self.now.table.schema.columns) }
+    {
+        let row = self.rows.row(rowid)?;
+        Some(RowView {
+            rowid: *rowid,
+            row,
+            schema: &self.schema,
+        })
+    }
+
     /// The slots of a chunk, where it has a row.
     pub fn slots(&self, chunk: u32) -> Option<&Chunk>
         ensures there { is_some result ≡ is_some (first_in self.now.table.rows chunk) }
@@ -50,6 +67,14 @@ impl TableVersion {
         ensures { option_copied result ≡ option_map (partition_in self.now.table.schema.columns) (first_in self.now.table.rows chunk) }
     {
         self.rows.partition(chunk)
+    }
+
+    /// The bytes of all vectors of all rows.
+    #[tactic(auto, using(crate::proofs::VectorBytes::row_fits, crate::proofs::VectorBytes::rows_fit, crate::proofs::VectorBytes::rows_counted))]
+    pub fn vector_bytes(&self) -> u64
+        ensures { result ≡ rows_vector_bytes (plain_rows self.now.table.rows) }
+    {
+        self.rows.len() * row_bytes(self.schema.columns.as_slice())
     }
 
     /// An equal table that follows this one. A later change of one leaves the other.

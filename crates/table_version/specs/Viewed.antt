@@ -1,0 +1,16 @@
+-- A row that is read column by column.
+use Rattle.std.specs.Prelude.{ℕ, zero, suc, Bool, false, List, [], ◌∷◌}
+use Rattle.row_model.specs.Schemas.{is_vector}
+use Rattle.row_model.specs.declared.schema.Column.{Column}
+use Rattle.shadow_records.specs.PlacedTables.{PlacedRow}
+
+-- a row of a table of these columns
+pub record ViewedRow : Type 0 where
+  pub columns : List Column
+  pub placed : PlacedRow
+
+-- the column at a place, from 0, is one of vectors
+abbrev pub is_vector_at : List Column → ℕ → Bool
+is_vector_at [] place = false
+is_vector_at (column ∷ columns) zero = is_vector column.kind
+is_vector_at (column ∷ columns) (suc place) = is_vector_at columns place
