@@ -1,7 +1,7 @@
 -- What stands in a column of a stored row.
 use Rattle.std.proofs.Common.{◌≡◌, ℕ, zero, suc, ℤ, ◌+◌, ◌≤◌, ◌<◌, Bool, true, false, cond, List, [], ◌∷◌, ◌∙◌, refl, ap, arith, length, Option, Some, None}
 use Rattle.std.specs.Prelude.{◌-◌, is_some, slice_index_or}
-use Rattle.std.specs.Option.{option_map}
+use Rattle.std.specs.Option.{option_copied, option_map}
 use Rattle.vec_base.specs.declared.value.Value.{Value}
 use Rattle.vec_base.specs.declared.value.Value.TheVariants.{Null}
 use Rattle.chunk_slots.specs.Slots.{slot_at, vector_of}
@@ -14,9 +14,9 @@ use Rattle.row_store.specs.StoredRows.{StoredRow, row_of as stored_of}
 use Rattle.row_store.specs.declared.readers.RowRef.{RowRef}
 use Rattle.shadow_records.specs.PlacedTables.{row_of}
 use Rattle.table_version.specs.Kept.{widths_of}
-use Rattle.table_version.specs.Viewed.{is_vector_at}
+use Rattle.table_version.specs.Viewed.{column_value, is_vector_at, is_vector_column}
 use Rattle.table_version.specs.inner.StoredTables.{placed, placed_rows}
-use Rattle.table_version.specs.inner.Viewing.{vectors_before, viewed, IsSoundView}
+use Rattle.table_version.specs.inner.Viewing.{field_value, kept_value, vectors_before, viewed, IsSoundView}
 use Rattle.table_version.specs.inner.Weaving.{next_vector, past, woven, woven_value}
 use Rattle.table_version.proofs.StoredLaws.{placed-of}
 use Rattle.table_version.proofs.WeavingLaws.{one_if, one_width}
@@ -111,3 +111,38 @@ none_there columns rows i is = placed-of columns rows i ∙ ap (λ o. option_map
 pub view_sound : (columns : List Column) (widths : List ℕ) (row : RowRef) → is_some (slot_at row.slots.now row.slot) ≡ true → row.slots.now.widths ≡ widths → widths ≡ widths_of columns →
     IsSoundView columns row
 view_sound columns widths row used same is = record { used = used; widths = same ∙ is }
+
+-- ---- what stands in a column that is none of vectors
+
+pub later_field : (column : Column) (columns : List Column) (place : ℕ) (rowid : ℤ) (id : Option (List ℕ)) (partition : List Value) → 1 ≤ place →
+    field_value (column ∷ columns) place rowid id partition ≡ field_value columns (place - 1) rowid id (past (is_partition column.kind) partition)
+later_field column columns zero rowid id partition low = absurd (omega (arith, low))
+later_field column columns (suc place) rowid id partition low = ap (λ n. field_value columns n rowid id (past (is_partition column.kind) partition)) (less_one place)
+
+own_field : (kind : Kind) (rowid : ℤ) (id : Option (List ℕ)) (partition : List Value) (vectors : List (List ℕ)) → is_vector kind ≡ false →
+    woven_value kind rowid id partition vectors ≡ kept_value kind rowid id partition
+own_field IntKey rowid id partition vectors none = refl
+own_field TextKey rowid id partition vectors none = refl
+own_field (Int8Vector width metric) rowid id partition vectors none = absurd cc
+own_field (BitVector width) rowid id partition vectors none = absurd cc
+own_field IntPartition rowid id partition vectors none = refl
+own_field TextPartition rowid id partition vectors none = refl
+own_field IntMeta rowid id partition vectors none = refl
+own_field TextMeta rowid id partition vectors none = refl
+own_field BoolMeta rowid id partition vectors none = refl
+own_field IntAux rowid id partition vectors none = refl
+own_field TextAux rowid id partition vectors none = refl
+own_field BlobAux rowid id partition vectors none = refl
+
+woven_field : (columns : List Column) (rowid : ℤ) (id : Option (List ℕ)) (partition : List Value) (vectors : List (List ℕ)) (place : ℕ) → is_vector_at columns place ≡ false →
+    slice_index_or (woven columns rowid id partition vectors) place Null ≡ field_value columns place rowid id partition
+woven_field [] rowid id partition vectors place none = refl
+woven_field (column ∷ columns) rowid id partition vectors zero none = own_field column.kind rowid id partition vectors none
+woven_field (column ∷ columns) rowid id partition vectors (suc place) none =
+    woven_field columns rowid id (past (is_partition column.kind) partition) (past (is_vector column.kind) vectors) place none
+
+pub field_there : (columns : List Column) (rowid : ℤ) (row : RowRef) (column : ℕ) → 1 ≤ column → is_vector_column columns column ≡ false →
+    column_value (viewed columns rowid row) column ≡ field_value columns (column - 1) rowid (option_copied row.id) row.partition.now
+field_there columns rowid row zero low none = absurd (omega (arith, low))
+field_there columns rowid row (suc place) low none =
+    woven_field columns rowid _ row.partition.now _ place none ∙ ap (λ n. field_value columns n rowid (option_copied row.id) row.partition.now) (less_one place)

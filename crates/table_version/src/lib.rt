@@ -2,6 +2,7 @@
 #![tactic(auto)]
 
 mod columns;
+mod field;
 mod given;
 mod insert;
 mod readers;
@@ -9,5 +10,6 @@ mod remove;
 mod row_view;
 mod table;
 
+pub use field::Field;
 pub use row_view::RowView;
 pub use table::TableVersion;
