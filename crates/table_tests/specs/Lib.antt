@@ -1,0 +1,2 @@
+-- OneColumn: the columns of the tables that are tested.
+pub mod OneColumn

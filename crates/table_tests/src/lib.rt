@@ -1,0 +1,5 @@
+//! Tests of tables in chunks.
+#![tactic(auto)]
+
+#[cfg(test)]
+mod tables;
