@@ -12,9 +12,11 @@ ghost use Rattle.row_model.specs.Valid.{is_top};
 
 use crate::insert::{free_place, given_rowid, long_value, row_of, taken_id};
 use crate::totals::{Totals, row_side_bytes, row_vector_bytes};
-use row_model::{Place, Row, Table, over_rows, over_sides, over_vectors};
+use row_model::{
+    Place, Row, Table, assigned, larger, over_rows, over_sides, over_vectors, spent,
+};
 use std::alloc::Global;
-use vec_base::{LAST_ROWID, List, Memory, Refusal, Value};
+use vec_base::{List, Memory, Refusal, Value};
 
 /// Where a new row goes in among the rows, or the refusal of a rowid that is there. A rowid that is not given is above
 /// all others.
@@ -33,39 +35,6 @@ fn gap(rows: &[Row], top: &i64, rowid: &Option<i64>) -> Result<usize, Refusal>
             None => Err(Refusal::Duplicate(*rowid)),
         },
     }
-}
-
-/// The refusal where a rowid is to be assigned and none is left.
-fn spent(top: &i64, rowid: &Option<i64>) -> Option<Refusal>
-    ensures { result ≡ first (spent top.now rowid.now) }
-{
-    match rowid {
-        Some(_) => None,
-        None => {
-            if *top < LAST_ROWID {
-                None
-            } else {
-                Some(Refusal::RowidsSpent)
-            }
-        }
-    }
-}
-
-/// The rowid of a row: the one that is given, or the one above the top.
-fn assigned(top: &i64, rowid: &Option<i64>) -> i64
-    ensures { result ≡ assigned top.now rowid.now }
-{
-    match rowid {
-        Some(rowid) => *rowid,
-        None => { if *top < LAST_ROWID { *top + 1 } else { *top } }
-    }
-}
-
-/// The greater of two.
-fn larger(a: &i64, b: &i64) -> i64
-    ensures { result ≡ larger a.now b.now }
-{
-    if *a < *b { *b } else { *a }
 }
 
 /// The refusal of a row for which there is no room beside so many rows.
