@@ -1,0 +1,5 @@
+//! Tests of chunks of rows.
+#![tactic(auto)]
+
+#[cfg(test)]
+mod tests;

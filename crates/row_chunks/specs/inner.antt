@@ -1,0 +1,3 @@
+pub mod CellColumns
+pub mod Held
+pub mod Shown
