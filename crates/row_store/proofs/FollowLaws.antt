@@ -1,7 +1,8 @@
--- Where a store follows an older one: after one row more or less, its rowid and its place are touched.
-use Rattle.std.proofs.Common.{◌≡◌, ℕ, ℤ, Bool, true, false, refl, sym, ap, ◌∙◌}
+-- Where a store follows an older one: after one row more, less or changed, its rowid and its place are touched.
+use Rattle.std.proofs.Common.{◌≡◌, ℕ, ℤ, Bool, true, false, cond, List, [], ◌∷◌, Some, refl, sym, ap, ◌∙◌}
+use Rattle.std.specs.List.{AllByRecursion, find}
 use Rattle.std.specs.Ordering.{int_eq}
-use Rattle.row_store.specs.StoredRows.{StoredRow, rowid_of, row_of, row_at, lies_at, with_row, without}
+use Rattle.row_store.specs.StoredRows.{StoredRow, rowid_of, row_of, row_at, lies_at, with_changed, with_row, without}
 use Rattle.row_store.specs.Touches.{Touches, StoreState, KeepsOrigin, is_touched_row, is_touched_place}
 use Rattle.row_store.specs.inner.Widening.{IsWider}
 use Rattle.row_store.proofs.KeyedLaws.{found-with_other, found-without_other}
@@ -53,20 +54,50 @@ follows-same old new wider is = λ base follows. record {
   by_place = λ c s out. follows.by_place c s (place_untouched old.touches new.touches c s wider out) ∙ sym (ap (λ rs. row_at rs c s) is);
 }
 
+-- what has a touched rowid has no other that is not touched
+apart_rowid : (touches : Touches) (rowid i j : ℤ) → is_touched_row touches rowid ≡ true → is_touched_row touches i ≡ false → int_eq j rowid ≡ true → int_eq j i ≡ false
+apart_rowid touches rowid i j touched out here = by_test (int_eq j i) refl where
+  by_test : (t : Bool) → int_eq j i ≡ t → int_eq j i ≡ false
+  by_test false e = e
+  by_test true e =
+      let there : is_touched_row touches i ≡ true = ap (is_touched_row touches) (sym (eq_from j i e) ∙ eq_from j rowid here) ∙ touched in
+      let never : true ≡ false = sym there ∙ out in
+      absurd cc
+
 -- the rows of a rowid go, which all lie at a touched place
 pub follows-removed : (old new : StoreState) (rowid : ℤ) (chunk slot : ℕ) → IsWider old.touches new.touches → is_touched_row new.touches rowid ≡ true → is_touched_place new.touches chunk slot ≡ true →
     ((c s : ℕ) → is_touched_place new.touches c s ≡ false → row_at (without rowid old.rows) c s ≡ row_at old.rows c s) → new.rows ≡ without rowid old.rows → KeepsOrigin old new
 follows-removed old new rowid chunk slot wider touched spot elsewhere is = λ base follows. record {
   by_rowid = λ i out. follows.by_rowid i (row_untouched old.touches new.touches i wider out)
-      ∙ sym (ap (row_of i) is ∙ found-without_other rowid_of (λ r. int_eq (rowid_of r) i) rowid old.rows (λ r here. apart i (rowid_of r) out here));
+      ∙ sym (ap (row_of i) is ∙ found-without_other rowid_of (λ r. int_eq (rowid_of r) i) rowid old.rows (λ r here. apart_rowid new.touches rowid i (rowid_of r) touched out here));
   by_place = λ c s out. follows.by_place c s (place_untouched old.touches new.touches c s wider out)
       ∙ sym (ap (λ rs. row_at rs c s) is ∙ elsewhere c s out);
-} where
-  apart : (i j : ℤ) → is_touched_row new.touches i ≡ false → int_eq j rowid ≡ true → int_eq j i ≡ false
-  apart i j out here = by_test (int_eq j i) refl where
-    by_test : (t : Bool) → int_eq j i ≡ t → int_eq j i ≡ false
-    by_test false e = e
-    by_test true e =
-        let there : is_touched_row new.touches i ≡ true = ap (is_touched_row new.touches) (sym (eq_from j i e) ∙ eq_from j rowid here) ∙ touched in
-        let never : true ≡ false = sym there ∙ out in
-        absurd cc
+}
+
+-- ---- a row changes in its place
+
+-- where a test holds of no element of a key, before or after its change, the change is not found
+found-changed : (test : StoredRow → Bool) (i : ℤ) (change : StoredRow → StoredRow) (rows : List StoredRow) → ((r : StoredRow) → test (change r) ≡ test r) →
+    AllByRecursion (λ r. int_eq (rowid_of r) i ≡ true → test r ≡ false) rows → find test (with_changed i change rows) ≡ find test rows
+found-changed test i change [] same out = refl
+found-changed test i change (r ∷ rs) same out = by_key (int_eq r.rowid i) refl (found-changed test i change rs same out.1) where
+  by_key : (t : Bool) → int_eq r.rowid i ≡ t → find test (with_changed i change rs) ≡ find test rs → find test (with_changed i change (r ∷ rs)) ≡ find test (r ∷ rs)
+  by_key true e rest = let was = out.0 e in let now = same r ∙ was in rw (e, now, was) rest
+  by_key false e rest = rw e (ap (cond (test r) (Some r)) rest)
+
+all-such : (P : StoredRow → Type 0) (rows : List StoredRow) → ((r : StoredRow) → P r) → AllByRecursion P rows
+all-such P [] each = tt
+all-such P (r ∷ rs) each = (each r, all-such P rs each)
+
+-- the row of a rowid, which lies at a touched place, is changed and stays there
+pub follows-changed : (old new : StoreState) (rowid : ℤ) (change : StoredRow → StoredRow) → IsWider old.touches new.touches → is_touched_row new.touches rowid ≡ true →
+    ((r : StoredRow) → rowid_of (change r) ≡ rowid_of r) → ((c s : ℕ) (r : StoredRow) → lies_at c s (change r) ≡ lies_at c s r) →
+    ((c s : ℕ) → is_touched_place new.touches c s ≡ false → AllByRecursion (λ r. int_eq (rowid_of r) rowid ≡ true → lies_at c s r ≡ false) old.rows) →
+    new.rows ≡ with_changed rowid change old.rows → KeepsOrigin old new
+follows-changed old new rowid change wider touched same_rowid same_place elsewhere is = λ base follows. record {
+  by_rowid = λ i out. follows.by_rowid i (row_untouched old.touches new.touches i wider out)
+      ∙ sym (ap (row_of i) is ∙ found-changed (λ r. int_eq (rowid_of r) i) rowid change old.rows (λ r. ap (λ k. int_eq k i) (same_rowid r))
+      (all-such (λ r. int_eq (rowid_of r) rowid ≡ true → int_eq (rowid_of r) i ≡ false) old.rows (λ r here. apart_rowid new.touches rowid i (rowid_of r) touched out here)));
+  by_place = λ c s out. follows.by_place c s (place_untouched old.touches new.touches c s wider out)
+      ∙ sym (ap (λ rs. row_at rs c s) is ∙ found-changed (lies_at c s) rowid change old.rows (same_place c s) (elsewhere c s out));
+}

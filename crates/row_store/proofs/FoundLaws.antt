@@ -3,7 +3,7 @@ use Rattle.std.proofs.Common.{◌≡◌, ℕ, zero, suc, ℤ, ◌<◌, true, fal
 use Rattle.std.specs.Prelude.{is_some}
 use Rattle.std.specs.Option.{option_map, option_and_then}
 use Rattle.std.specs.declared.option.Option.{Option}
-use Rattle.chunk_slots.specs.Slots.{UsedSlot}
+use Rattle.row_chunks.specs.RowSlots.{UsedRow}
 use Rattle.row_index.specs.Entries.{entry_of, place_of, is_rising}
 use Rattle.row_index.specs.declared.entry.Entry.{Entry}
 use Rattle.slot_alloc.specs.Places.{PlaceMap, IsPlaceMap}
@@ -27,7 +27,7 @@ module _ (parts : List Part) (places : PlaceMap) (entries : List Entry)
 
   -- what an entry that is found tells
   pub record IsFoundEntry (i : ℤ) (chunk slot : ℕ) : Type 0 where
-    pub used : UsedSlot
+    pub used : UsedRow
     pub seen : seen_at parts chunk slot ≡ Some used
     pub same : used.rowid ≡ i
 

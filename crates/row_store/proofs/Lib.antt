@@ -1,3 +1,4 @@
+mod ChangeLaws
 mod FollowLaws
 mod FoundLaws
 mod KeyedLaws
@@ -8,6 +9,7 @@ mod PutLaws
 mod RemoveLaws
 mod ReadLaws
 mod SearchLaws
+mod SlotLaws
 mod TieLaws
 mod TouchLaws
 mod ViewLaws

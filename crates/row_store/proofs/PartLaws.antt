@@ -6,10 +6,15 @@ use Rattle.std.specs.declared.option.Option.{Option}
 use Rattle.std.proofs.lemmas.Bool.{and_parts, and_from, cases_lt, cond-true, cond-false}
 use Rattle.std.proofs.lemmas.List.Sums.{sum_by-cons}
 use Rattle.std.proofs.lemmas.List.{get_or-set_same, get_or-set_other, length-replicate}
-use Rattle.chunk_slots.specs.Slots.{UsedSlot, all_free, slot_at, used_by}
+use Rattle.vec_base.specs.declared.value.Value.{Value}
+use Rattle.row_model.specs.declared.schema.Column.{Column}
+use Rattle.chunk_slots.specs.Slots.{vectors_of}
+use Rattle.row_chunks.specs.Cells.{are_cell_values, cells_of}
+use Rattle.row_chunks.specs.RowSlots.{UsedRow, all_free, slot_at}
 use Rattle.shared_leaves.specs.Edits.{edited_at, HoldsAt}
 use Rattle.row_store.specs.declared.part.Part.{Part}
-use Rattle.row_store.specs.inner.Parts.{part_of, seen_at, seen_in, numbers_rise, number_at, with_content, CanTake, HasShape, ArePartsOf, IsChangedAt, KeepShapes}
+use Rattle.row_store.specs.declared.shape.Shape.{Shape}
+use Rattle.row_store.specs.inner.Parts.{part_of, seen_at, seen_in, numbers_rise, number_at, taken_by, with_content, CanTake, HasShape, RowFits, ArePartsOf, IsChangedAt, KeepShapes}
 
 -- ---- numbers
 
@@ -241,7 +246,7 @@ all-removed P at [] lt all = absurd (omega (arith, lt))
 all-removed P zero (x ∷ xs) lt all = all.1
 all-removed P (suc at) (x ∷ xs) lt all = (all.0, all-removed P at xs (omega arith) all.1)
 
-any-set : (xs : List (Option UsedSlot)) (s : ℕ) (used : UsedSlot) → s < length xs → list_any is_some (slice_set xs s (Some used)) ≡ true
+any-set : (xs : List (Option UsedRow)) (s : ℕ) (used : UsedRow) → s < length xs → list_any is_some (slice_set xs s (Some used)) ≡ true
 any-set [] s used lt = absurd (omega (arith, lt))
 any-set (x ∷ xs) zero used lt = refl
 any-set (x ∷ xs) (suc s) used lt = or_right (is_some x) (list_any is_some (slice_set xs s (Some used))) (any-set xs s used (omega arith)) where
@@ -249,84 +254,86 @@ any-set (x ∷ xs) (suc s) used lt = or_right (is_some x) (list_any is_some (sli
   or_right true b e = refl
   or_right false b e = e
 
-any-counted : (xs : List (Option UsedSlot)) → 0 < count_by is_some xs → list_any is_some xs ≡ true
+any-counted : (xs : List (Option UsedRow)) → 0 < count_by is_some xs → list_any is_some xs ≡ true
 any-counted [] h = absurd (omega (arith, h))
 any-counted (None ∷ xs) h = any-counted xs h
 any-counted (Some x ∷ xs) h = refl
 
 -- where more than one is used, some are left when one goes
-any-left : (xs : List (Option UsedSlot)) (s : ℕ) → s < length xs → 1 < count_by is_some xs → list_any is_some (slice_set xs s None) ≡ true
+any-left : (xs : List (Option UsedRow)) (s : ℕ) → s < length xs → 1 < count_by is_some xs → list_any is_some (slice_set xs s None) ≡ true
 any-left [] s lt many = absurd (omega (arith, lt))
 any-left (None ∷ xs) zero lt many = any-counted xs (let h : 1 < count_by is_some xs = many in omega (arith, h))
-any-left (Some x ∷ xs) zero lt many = any-counted xs (let h : 1 < 1 + count_by is_some xs = rw (sym (sum_by-cons {X = Option UsedSlot} (λ y. cond (is_some y) 1 0) (Some x) xs)) many in omega (arith, h))
+any-left (Some x ∷ xs) zero lt many = any-counted xs (let h : 1 < 1 + count_by is_some xs = rw (sym (sum_by-cons {X = Option UsedRow} (λ y. cond (is_some y) 1 0) (Some x) xs)) many in omega (arith, h))
 any-left (None ∷ xs) (suc s) lt many = any-left xs s (omega arith) many
 any-left (Some x ∷ xs) (suc s) lt many = refl
 
-none-counted : (xs : List (Option UsedSlot)) (t : ℕ) → count_by is_some xs ≡ 0 → slice_index_or xs t None ≡ None
+none-counted : (xs : List (Option UsedRow)) (t : ℕ) → count_by is_some xs ≡ 0 → slice_index_or xs t None ≡ None
 none-counted [] t h = refl
 none-counted (None ∷ xs) zero h = refl
 none-counted (None ∷ xs) (suc t) h = none-counted xs t h
-none-counted (Some x ∷ xs) t h = absurd (let e : 1 + count_by is_some xs ≡ 0 = sym (sum_by-cons {X = Option UsedSlot} (λ y. cond (is_some y) 1 0) (Some x) xs) ∙ h in omega (arith, e))
+none-counted (Some x ∷ xs) t h = absurd (let e : 1 + count_by is_some xs ≡ 0 = sym (sum_by-cons {X = Option UsedRow} (λ y. cond (is_some y) 1 0) (Some x) xs) ∙ h in omega (arith, e))
 
 -- where one alone is used, no other is
-only-counted : (xs : List (Option UsedSlot)) (s t : ℕ) → is_some (slice_index_or xs s None) ≡ true → count_by is_some xs ≤ 1 → (t ≡ s → ⊥) → slice_index_or xs t None ≡ None
+only-counted : (xs : List (Option UsedRow)) (s t : ℕ) → is_some (slice_index_or xs s None) ≡ true → count_by is_some xs ≤ 1 → (t ≡ s → ⊥) → slice_index_or xs t None ≡ None
 only-counted [] s t used few other = refl
 only-counted (None ∷ xs) zero t used few other = absurd cc
 only-counted (None ∷ xs) (suc s) zero used few other = refl
 only-counted (None ∷ xs) (suc s) (suc t) used few other = only-counted xs s t used few (λ e. other (ap suc e))
 only-counted (Some x ∷ xs) zero zero used few other = absurd (other refl)
-only-counted (Some x ∷ xs) zero (suc t) used few other = none-counted xs t (let h : 1 + count_by is_some xs ≤ 1 = rw (sym (sum_by-cons {X = Option UsedSlot} (λ y. cond (is_some y) 1 0) (Some x) xs)) few in omega (arith, h))
+only-counted (Some x ∷ xs) zero (suc t) used few other = none-counted xs t (let h : 1 + count_by is_some xs ≤ 1 = rw (sym (sum_by-cons {X = Option UsedRow} (λ y. cond (is_some y) 1 0) (Some x) xs)) few in omega (arith, h))
 only-counted (Some x ∷ xs) (suc s) t used few other =
-    let h : 1 + count_by is_some xs ≤ 1 = rw (sym (sum_by-cons {X = Option UsedSlot} (λ y. cond (is_some y) 1 0) (Some x) xs)) few in
+    let h : 1 + count_by is_some xs ≤ 1 = rw (sym (sum_by-cons {X = Option UsedRow} (λ y. cond (is_some y) 1 0) (Some x) xs)) few in
     let zero_left : count_by is_some xs ≡ 0 = omega (arith, h) in
     let gone : slice_index_or xs s None ≡ None = none-counted xs s zero_left in
     let never : false ≡ true = sym (ap is_some gone) ∙ used in
     absurd cc
 
 -- what slots hold has these widths, where what is put there has them and what was there had them
-fits-set : (widths : List ℕ) (xs : List (Option UsedSlot)) (s : ℕ) (o : Option UsedSlot) → s < length xs → ((u : UsedSlot) → o ≡ Some u → map length u.vectors ≡ widths) →
-    ((t : ℕ) (u : UsedSlot) → slice_index_or xs t None ≡ Some u → map length u.vectors ≡ widths) → (t : ℕ) (u : UsedSlot) → slice_index_or (slice_set xs s o) t None ≡ Some u → map length u.vectors ≡ widths
+fits-set : (widths : List ℕ) (xs : List (Option UsedRow)) (s : ℕ) (o : Option UsedRow) → s < length xs → ((u : UsedRow) → o ≡ Some u → map length u.vectors ≡ widths) →
+    ((t : ℕ) (u : UsedRow) → slice_index_or xs t None ≡ Some u → map length u.vectors ≡ widths) → (t : ℕ) (u : UsedRow) → slice_index_or (slice_set xs s o) t None ≡ Some u → map length u.vectors ≡ widths
 fits-set widths xs s o within new old t u is = by_slot (t == s) refl where
   by_slot : (b : Bool) → (t == s) ≡ b → map length u.vectors ≡ widths
   by_slot true e = new u (sym (ap (λ v. slice_index_or (slice_set xs s o) v None) (number_same t s e) ∙ get_or-set_same xs s o None within) ∙ is)
   by_slot false e = old t u (sym (get_or-set_other xs s t o None (number_other t s e)) ∙ is)
 
-only_fits : (widths : List ℕ) (used : UsedSlot) → map length used.vectors ≡ widths → (u : UsedSlot) → Some used ≡ Some u → map length u.vectors ≡ widths
+only_fits : (widths : List ℕ) (used : UsedRow) → map length used.vectors ≡ widths → (u : UsedRow) → Some used ≡ Some u → map length u.vectors ≡ widths
 only_fits widths used fits u same = let u_is : used ≡ u = cc in ap (λ v. map length v.vectors) (sym u_is) ∙ fits
 
-pub placed-shape : (size : ℕ) (widths : List ℕ) (slot : ℕ) (used : UsedSlot) (x : Part) → slot < length x.slots.slots → map length used.vectors ≡ x.slots.widths → HasShape size widths x → HasShape size widths (with_content slot (Some used) x)
-placed-shape size widths slot used x within fits shape = record {
+pub placed-shape : (alike : Shape) (slot : ℕ) (used : UsedRow) (x : Part) → slot < length x.slots.slots → map length used.vectors ≡ x.slots.widths → HasShape alike x → HasShape alike (with_content slot (Some used) x)
+placed-shape alike slot used x within fits shape = record {
   long = length-set x.slots.slots slot (Some used) ∙ shape.long;
   wide = shape.wide;
+  celled = shape.celled;
   filled = any-set x.slots.slots slot used within;
-  vectors = fits-set widths x.slots.slots slot (Some used) within (only_fits widths used (fits ∙ shape.wide)) shape.vectors;
+  vectors = fits-set alike.widths x.slots.slots slot (Some used) within (only_fits alike.widths used (fits ∙ shape.wide)) shape.vectors;
   narrow = shape.narrow;
 }
 
-pub dropped-shape : (size : ℕ) (widths : List ℕ) (slot : ℕ) (x : Part) → slot < length x.slots.slots → 1 < count_by is_some x.slots.slots → HasShape size widths x → HasShape size widths (with_content slot None x)
-dropped-shape size widths slot x within many shape = record {
+pub dropped-shape : (alike : Shape) (slot : ℕ) (x : Part) → slot < length x.slots.slots → 1 < count_by is_some x.slots.slots → HasShape alike x → HasShape alike (with_content slot None x)
+dropped-shape alike slot x within many shape = record {
   long = length-set x.slots.slots slot None ∙ shape.long;
   wide = shape.wide;
+  celled = shape.celled;
   filled = any-left x.slots.slots slot within many;
-  vectors = fits-set widths x.slots.slots slot None within (λ u never. absurd cc) shape.vectors;
+  vectors = fits-set alike.widths x.slots.slots slot None within (λ u never. absurd cc) shape.vectors;
   narrow = shape.narrow;
 }
 
 -- ---- what is seen
 
-module _ (parts : List Part) (at slot : ℕ) (x : Part) (content : Option UsedSlot)
+module _ (parts : List Part) (at slot : ℕ) (x : Part) (content : Option UsedRow)
     (rise : numbers_rise parts ≡ true) (there : slice_get parts at ≡ Some x) (within : slot < length x.slots.slots)
-    (shape : (size : ℕ) (widths : List ℕ) → HasShape size widths x → HasShape size widths (with_content slot content x)) where
+    (shape : (alike : Shape) → HasShape alike x → HasShape alike (with_content slot content x)) where
   pub edited-shapes : KeepShapes parts (edited_at (with_content slot content) at parts)
-  edited-shapes size widths are = record {
+  edited-shapes alike are = record {
     rise = rise-edited (with_content slot content) parts at (λ y. refl) are.rise;
-    shaped = all-edited (HasShape size widths) (with_content slot content) at parts (λ y is h. kept y is h) are.shaped;
+    shaped = all-edited (HasShape alike) (with_content slot content) at parts (λ y is h. kept y is h) are.shaped;
   } where
-    kept : (y : Part) → slice_get parts at ≡ Some y → HasShape size widths y → HasShape size widths (with_content slot content y)
+    kept : (y : Part) → slice_get parts at ≡ Some y → HasShape alike y → HasShape alike (with_content slot content y)
     kept y is h =
         let same : Some x ≡ Some y = sym there ∙ is in
         let x_is : x ≡ y = cc in
-        subst (λ z. HasShape size widths (with_content slot content z)) x_is (shape size widths (subst (HasShape size widths) (sym x_is) h))
+        subst (λ z. HasShape alike (with_content slot content z)) x_is (shape alike (subst (HasShape alike) (sym x_is) h))
 
   own_part : part_of parts x.number ≡ Some x
   own_part = member_part parts at x rise there
@@ -348,21 +355,21 @@ module _ (parts : List Part) (at slot : ℕ) (x : Part) (content : Option UsedSl
     by_part d t false e = sym (ap (λ b. cond (b && t == slot) content (seen_at parts d t)) (number_apart x.number d e))
 
 -- a new part with one row
-module _ (parts : List Part) (at slot size : ℕ) (widths : List ℕ) (used : UsedSlot) (number : ℕ)
+module _ (parts : List Part) (at slot : ℕ) (alike : Shape) (used : UsedRow) (number : ℕ)
     (le : at ≤ length parts) (front : (k : ℕ) → k < at → number_at parts k < number) (back : (k : ℕ) → at ≤ k → k < length parts → number ≤ number_at parts k)
-    (new : part_of parts number ≡ None) (rise : numbers_rise parts ≡ true) (within : slot < size) where
+    (new : part_of parts number ≡ None) (rise : numbers_rise parts ≡ true) (within : slot < alike.size) where
   abbrev fresh : Part
-  fresh = with_content slot (Some used) (record { number = number; slots = all_free size widths })
+  fresh = with_content slot (Some used) (record { number = number; slots = all_free alike.size alike.widths alike.kinds })
 
-  free_slots : (t : ℕ) → slice_index_or (replicate {A = Option UsedSlot} size None) t None ≡ None
-  free_slots t = all_none size t where
-    all_none : (n t : ℕ) → slice_index_or (replicate {A = Option UsedSlot} n None) t None ≡ None
+  free_slots : (t : ℕ) → slice_index_or (replicate {A = Option UsedRow} alike.size None) t None ≡ None
+  free_slots t = all_none alike.size t where
+    all_none : (n t : ℕ) → slice_index_or (replicate {A = Option UsedRow} n None) t None ≡ None
     all_none zero t = refl
     all_none (suc n) zero = refl
     all_none (suc n) (suc t) = all_none n t
 
-  in_range : slot < length (replicate {A = Option UsedSlot} size None)
-  in_range = let h = length-replicate {A = Option UsedSlot} size None in omega (arith, h, within)
+  in_range : slot < length (replicate {A = Option UsedRow} alike.size None)
+  in_range = let h = length-replicate {A = Option UsedRow} alike.size None in omega (arith, h, within)
 
   strictly : (k : ℕ) → at ≤ k → k < length parts → number < number_at parts k
   strictly k low lt = not_equal (number_at parts k) refl (back k low lt) where
@@ -371,14 +378,15 @@ module _ (parts : List Part) (at slot size : ℕ) (widths : List ℕ) (used : Us
       there : number_at parts k ≡ number → ⊥
       there e = let never : None ≡ Some (get_or parts k fresh) = sym new ∙ part_of-at parts number k fresh rise lt e in absurd cc
 
-  pub added-shapes : map length used.vectors ≡ widths → number < 2 ^ 32 → ArePartsOf size widths parts → ArePartsOf size widths (insert parts at fresh)
+  pub added-shapes : map length used.vectors ≡ alike.widths → number < 2 ^ 32 → ArePartsOf alike parts → ArePartsOf alike (insert parts at fresh)
   added-shapes fits narrow are = record {
     rise = rise-inserted fresh parts at le front strictly are.rise;
-    shaped = all-inserted (HasShape size widths) fresh at parts le (record {
-      long = length-set (replicate {A = Option UsedSlot} size None) slot (Some used) ∙ length-replicate {A = Option UsedSlot} size None;
+    shaped = all-inserted (HasShape alike) fresh at parts le (record {
+      long = length-set (replicate {A = Option UsedRow} alike.size None) slot (Some used) ∙ length-replicate {A = Option UsedRow} alike.size None;
       wide = refl;
-      filled = any-set (replicate {A = Option UsedSlot} size None) slot used in_range;
-      vectors = fits-set widths (replicate {A = Option UsedSlot} size None) slot (Some used) in_range (only_fits widths used fits) (λ t u is. let never : None ≡ Some u = sym (free_slots t) ∙ is in absurd cc);
+      celled = refl;
+      filled = any-set (replicate {A = Option UsedRow} alike.size None) slot used in_range;
+      vectors = fits-set alike.widths (replicate {A = Option UsedRow} alike.size None) slot (Some used) in_range (only_fits alike.widths used fits) (λ t u is. let never : None ≡ Some u = sym (free_slots t) ∙ is in absurd cc);
       narrow = narrow;
     }) are.shaped;
   }
@@ -387,9 +395,9 @@ module _ (parts : List Part) (at slot size : ℕ) (widths : List ℕ) (used : Us
   added-at = record {
     seen = λ d t. ap (λ o. seen_in o t) (part_of-inserted fresh parts at d le new) ∙ by_part d t (number == d) refl;
   } where
-    by_slot : (t : ℕ) (b : Bool) → (t == slot) ≡ b → slice_index_or (slice_set (replicate {A = Option UsedSlot} size None) slot (Some used)) t None ≡ cond b (Some used) None
-    by_slot t true e = ap (λ u. slice_index_or (slice_set (replicate {A = Option UsedSlot} size None) slot (Some used)) u None) (number_same t slot e) ∙ get_or-set_same (replicate {A = Option UsedSlot} size None) slot (Some used) None in_range
-    by_slot t false e = get_or-set_other (replicate {A = Option UsedSlot} size None) slot t (Some used) None (number_other t slot e) ∙ free_slots t
+    by_slot : (t : ℕ) (b : Bool) → (t == slot) ≡ b → slice_index_or (slice_set (replicate {A = Option UsedRow} alike.size None) slot (Some used)) t None ≡ cond b (Some used) None
+    by_slot t true e = ap (λ u. slice_index_or (slice_set (replicate {A = Option UsedRow} alike.size None) slot (Some used)) u None) (number_same t slot e) ∙ get_or-set_same (replicate {A = Option UsedRow} alike.size None) slot (Some used) None in_range
+    by_slot t false e = get_or-set_other (replicate {A = Option UsedRow} alike.size None) slot t (Some used) None (number_other t slot e) ∙ free_slots t
 
     by_part : (d t : ℕ) (b : Bool) → (number == d) ≡ b → seen_in (cond b (Some fresh) (part_of parts d)) t ≡ cond (d == number && t == slot) (Some used) (seen_at parts d t)
     by_part d t true e =
@@ -405,7 +413,7 @@ module _ (parts : List Part) (at slot : ℕ) (x : Part)
     (rise : numbers_rise parts ≡ true) (lt : at < length parts) (there : slice_get parts at ≡ Some x)
     (used : is_some (slot_at x.slots slot) ≡ true) (few : count_by is_some x.slots.slots ≤ 1) where
   pub removed-shapes : KeepShapes parts (remove parts at)
-  removed-shapes size widths are = record { rise = rise-removed parts at lt are.rise; shaped = all-removed (HasShape size widths) at parts lt are.shaped }
+  removed-shapes alike are = record { rise = rise-removed parts at lt are.rise; shaped = all-removed (HasShape alike) at parts lt are.shaped }
 
   pub removed-at : IsChangedAt x.number slot None parts (remove parts at)
   removed-at = record {
@@ -436,27 +444,28 @@ get-is (y ∷ ys) zero x lt is d = let e : y ≡ x = cc in e
 get-is (y ∷ ys) (suc at) x lt is d = get-is ys at x (omega arith) is d
 
 -- the slot of what is seen is one of the part's
-pub used_within : (xs : List (Option UsedSlot)) (s : ℕ) → is_some (slice_index_or xs s None) ≡ true → s < length xs
+pub used_within : (xs : List (Option UsedRow)) (s : ℕ) → is_some (slice_index_or xs s None) ≡ true → s < length xs
 used_within [] s h = absurd cc
 used_within (x ∷ xs) zero h = omega arith
 used_within (x ∷ xs) (suc s) h = let r = used_within xs s h in omega (arith, r)
 
 -- ---- the changes that calls make
 
-pub filled_at : (parts new : List Part) (at slot : ℕ) (rowid : ℤ) (vectors : List (List ℕ)) → at < length parts → numbers_rise parts ≡ true → HoldsAt (CanTake slot vectors) at parts →
-    new ≡ edited_at (with_content slot (used_by rowid vectors)) at parts → IsChangedAt (number_at parts at) slot (used_by rowid vectors) parts new × KeepShapes parts new
-filled_at parts new at slot rowid vectors lt rise fits is =
+pub filled_at : (parts new : List Part) (at slot : ℕ) (rowid : ℤ) (columns : List Column) (values : List Value) → at < length parts → numbers_rise parts ≡ true → HoldsAt (CanTake slot columns values) at parts →
+    new ≡ edited_at (with_content slot (taken_by rowid columns values)) at parts → IsChangedAt (number_at parts at) slot (taken_by rowid columns values) parts new × KeepShapes parts new
+filled_at parts new at slot rowid columns values lt rise fits is =
     let p = part_at parts at lt in
     let can = fits p.0 p.1.0 in
-    let shape = λ (size : ℕ) (widths : List ℕ) (h : HasShape size widths p.0). placed-shape size widths slot (record { rowid = rowid; vectors = vectors }) p.0 can.within can.fits h in
-    rw (is, p.1.1) (changed-at parts at slot p.0 (used_by rowid vectors) rise p.1.0 can.within shape, edited-shapes parts at slot p.0 (used_by rowid vectors) rise p.1.0 can.within shape)
+    let used : UsedRow = record { rowid = rowid; vectors = vectors_of values; cells = cells_of columns values } in
+    let shape = λ (alike : Shape) (h : HasShape alike p.0). placed-shape alike slot used p.0 can.within can.fits.vectors h in
+    rw (is, p.1.1) (changed-at parts at slot p.0 (Some used) rise p.1.0 can.within shape, edited-shapes parts at slot p.0 (Some used) rise p.1.0 can.within shape)
 
 pub freed_at : (parts new : List Part) (at slot : ℕ) → at < length parts → numbers_rise parts ≡ true → HoldsAt (λ part. is_some (slot_at part.slots slot) ≡ true) at parts → HoldsAt (λ part. 1 < count_by is_some part.slots.slots) at parts →
     new ≡ edited_at (with_content slot None) at parts → IsChangedAt (number_at parts at) slot None parts new × KeepShapes parts new
 freed_at parts new at slot lt rise used many is =
     let p = part_at parts at lt in
     let within = used_within p.0.slots.slots slot (used p.0 p.1.0) in
-    let shape = λ (size : ℕ) (widths : List ℕ) (h : HasShape size widths p.0). dropped-shape size widths slot p.0 within (many p.0 p.1.0) h in
+    let shape = λ (alike : Shape) (h : HasShape alike p.0). dropped-shape alike slot p.0 within (many p.0 p.1.0) h in
     rw (is, p.1.1) (changed-at parts at slot p.0 None rise p.1.0 within shape, edited-shapes parts at slot p.0 None rise p.1.0 within shape)
 
 pub left_at : (parts new : List Part) (at slot : ℕ) → at < length parts → numbers_rise parts ≡ true → HoldsAt (λ part. is_some (slot_at part.slots slot) ≡ true) at parts → HoldsAt (λ part. count_by is_some part.slots.slots ≤ 1) at parts →
@@ -491,16 +500,21 @@ member_such P [] at x all is = absurd cc
 member_such P (y ∷ ys) zero x all is = let e : y ≡ x = cc in subst P e all.0
 member_such P (y ∷ ys) (suc at) x all is = member_such P ys at x all.1 is
 
-pub can_take : (parts : List Part) (c at slot size : ℕ) (widths : List ℕ) (vectors : List (List ℕ)) → ArePartsOf size widths parts → IsFound parts c at → seen_at parts c slot ≡ None → slot < size → map length vectors ≡ widths → HoldsAt (CanTake slot vectors) at parts
-can_take parts c at slot size widths vectors are found free lt fits = λ x is.
+pub can_take : (parts : List Part) (c at slot : ℕ) (alike : Shape) (columns : List Column) (values : List Value) → ArePartsOf alike parts → IsFound parts c at → seen_at parts c slot ≡ None → slot < alike.size →
+    RowFits alike.widths alike.kinds columns values → HoldsAt (CanTake slot columns values) at parts
+can_take parts c at slot alike columns values are found free lt fits = λ x is.
     let same : Some found.part ≡ Some x = sym found.there ∙ is in
     let x_is : found.part ≡ x = cc in
-    let shape : HasShape size widths x = member_such (HasShape size widths) parts at x are.shaped is in
+    let shape : HasShape alike x = member_such (HasShape alike) parts at x are.shaped is in
     let long = shape.long in
     record {
       within = omega (arith, long, lt);
       free = ap (λ o. seen_in o slot) (ap Some (sym x_is) ∙ sym found.named) ∙ free;
-      fits = fits ∙ sym shape.wide;
+      fits = record {
+        vectors = fits.vectors ∙ sym shape.wide;
+        columns_kinds = fits.columns_kinds ∙ sym shape.celled;
+        cells = ap (λ ks. are_cell_values ks (cells_of columns values)) shape.celled ∙ fits.cells;
+      };
     }
 
 -- what is said of the part of a number is said at its place

@@ -9,7 +9,7 @@ use Rattle.std.proofs.lemmas.Bool.{and_parts, cond-false}
 use Rattle.std.proofs.lemmas.Int.{ints}
 use Rattle.std.proofs.lemmas.Slice.Eq.{bytes_eq-Decides}
 use Rattle.vec_base.specs.declared.value.Value.{Value}
-use Rattle.chunk_slots.specs.Slots.{Slots, UsedSlot, slot_at, vectors_in}
+use Rattle.row_chunks.specs.RowSlots.{RowSlots, UsedRow, slot_at, vectors_in, cells_in}
 use Rattle.row_index.specs.Entries.{entry_of, is_rising, next_after, is_behind, has_id, is_text, is_same_id, have_own_ids, place_of, id_of, rowid_of as rowid_with}
 use Rattle.row_index.specs.declared.entry.Entry.{Entry}
 use Rattle.slot_alloc.specs.Places.{PlaceMap, IsPlaceMap, partition_of_chunk, is_used}
@@ -17,6 +17,7 @@ use Rattle.row_store.specs.Keyed.{keys_rise}
 use Rattle.row_store.specs.Shown.{held_of}
 use Rattle.row_store.specs.StoredRows.{StoredRow, rowid_of, row_of, row_at, first_in, lies_at, row_with_id, has_text, next_row, is_above}
 use Rattle.row_store.specs.declared.part.Part.{Part}
+use Rattle.row_store.specs.declared.shape.Shape.{Shape}
 use Rattle.row_store.specs.declared.place.RowPlace.{RowPlace}
 use Rattle.row_store.specs.inner.Parts.{part_of, slots_of, seen_at, seen_in, HasShape, ArePartsOf}
 use Rattle.row_store.specs.inner.Views.{row_from, rows_of, is_claimed_rowid, AreTied, values_or_none}
@@ -74,11 +75,11 @@ own_id parts places id (x ∷ xs) e own is none = by_test (has_id id x) refl is 
 
 -- ---- one row
 
-seen_like : (parts : List Part) (c d s t : ℕ) (o : Option UsedSlot) → c ≡ d → s ≡ t → seen_at parts d t ≡ o → seen_at parts c s ≡ o
+seen_like : (parts : List Part) (c d s t : ℕ) (o : Option UsedRow) → c ≡ d → s ≡ t → seen_at parts d t ≡ o → seen_at parts c s ≡ o
 seen_like parts c d s t o p q h = rw (p, q) h
 
-abbrev row_made : ℤ → ℕ → ℕ → Option (List ℕ) → List Value → List (List ℕ) → StoredRow
-row_made i c s id values vectors = record { rowid = i; chunk = c; slot = s; id = id; partition = values; vectors = vectors }
+abbrev row_made : ℤ → ℕ → ℕ → Option (List ℕ) → List Value → List (List ℕ) → List Value → StoredRow
+row_made i c s id values vectors cells = record { rowid = i; chunk = c; slot = s; id = id; partition = values; vectors = vectors; cells = cells }
 
 module _ (parts : List Part) (places : PlaceMap) (entries : List Entry) (claim : Option RowPlace)
     (tied : AreTied parts places entries claim) (rise : is_rising entries ≡ true) where
@@ -172,12 +173,12 @@ module _ (parts : List Part) (places : PlaceMap) (entries : List Entry) (claim :
   -- what is there of a rowid that has a place and no claim
   pub record IsThere (i : ℤ) (c s : ℕ) : Type 0 where
     pub row : StoredRow
-    pub used : UsedSlot
+    pub used : UsedRow
     pub values : List Value
     pub given : row_of i (rows_of parts places entries) ≡ Some row
     pub seen : seen_at parts c s ≡ Some used
     pub valued : partition_of_chunk places c ≡ Some values
-    pub is : row ≡ record { rowid = i; chunk = c; slot = s; id = id_of i entries; partition = values; vectors = used.vectors }
+    pub is : row ≡ record { rowid = i; chunk = c; slot = s; id = id_of i entries; partition = values; vectors = used.vectors; cells = used.cells }
 
   pub row-there : (i : ℤ) (c s : ℕ) → place_of i entries ≡ Some (c, s) → is_claimed_rowid claim i ≡ false → IsThere i c s
   row-there i c s placed other =
@@ -199,18 +200,18 @@ module _ (parts : List Part) (places : PlaceMap) (entries : List Entry) (claim :
         given = row_of-entry parts places entries claim tied rise i ∙ ap (option_and_then (row_from parts places)) m.1.0 ∙ r.1;
         seen = seen;
         valued = u.1.1;
-        is = made r.0 e.rowid i e.chunk c e.slot s e.id (id_of i entries) (values_or_none (partition_of_chunk places e.chunk)) u.0 told.used.vectors told.is i_is c_is s_is (sym id_is) values_is;
+        is = made r.0 e.rowid i e.chunk c e.slot s e.id (id_of i entries) (values_or_none (partition_of_chunk places e.chunk)) u.0 told.used.vectors told.used.cells told.is i_is c_is s_is (sym id_is) values_is;
       }
     where
-      made : (row : StoredRow) (a b : ℤ) (d e f g : ℕ) (h j : Option (List ℕ)) (v w : List Value) (x : List (List ℕ)) → row ≡ row_made a d f h v x → a ≡ b → d ≡ e → f ≡ g → h ≡ j → v ≡ w →
-          row ≡ row_made b e g j w x
-      made row a b d e f g h j v w x is p q r s t = is ∙ rw (p, q, r, s, t) refl
+      made : (row : StoredRow) (a b : ℤ) (d e f g : ℕ) (h j : Option (List ℕ)) (v w : List Value) (x : List (List ℕ)) (y : List Value) → row ≡ row_made a d f h v x y → a ≡ b → d ≡ e → f ≡ g → h ≡ j → v ≡ w →
+          row ≡ row_made b e g j w x y
+      made row a b d e f g h j v w x y is p q r s t = is ∙ rw (p, q, r, s, t) refl
 
   -- ---- chunks
 
   -- each row is seen at its place, and has the partition values of its chunk
   pub record IsSeen (r : StoredRow) : Type 0 where
-    pub used : UsedSlot
+    pub used : UsedRow
     pub seen : seen_at parts r.chunk r.slot ≡ Some used
     pub own : used.rowid ≡ r.rowid
     pub vectors : r.vectors ≡ used.vectors
@@ -253,13 +254,13 @@ module _ (parts : List Part) (places : PlaceMap) (entries : List Entry) (claim :
         absurd cc
 
   -- a chunk that is there has a row
-  pub first-there : (size : ℕ) (widths : List ℕ) (c : ℕ) (p : Part) → HasShape size widths p → part_of parts c ≡ Some p → is_some (first_in (rows_of parts places entries) c) ≡ true
-  first-there size widths c p shape is =
+  pub first-there : (alike : Shape) (c : ℕ) (p : Part) → HasShape alike p → part_of parts c ≡ Some p → is_some (first_in (rows_of parts places entries) c) ≡ true
+  first-there alike c p shape is =
       let s = some_slot p.slots.slots shape.filled in
       let seen : seen_at parts c s.0 ≡ Some s.1.0 = ap (λ o. seen_in o s.0) is ∙ s.1.1 in
       find-weaker (lies_at c s.0) (λ q. c == q.chunk) (rows_of parts places entries) _ (λ q at. (and_parts _ _ at).0) (row_at-seen parts places entries claim tied rise c s.0 s.1.0 seen)
     where
-      some_slot : (xs : List (Option UsedSlot)) → list_any is_some xs ≡ true → (s : ℕ) × ((u : UsedSlot) × (slice_index_or xs s None ≡ Some u))
+      some_slot : (xs : List (Option UsedRow)) → list_any is_some xs ≡ true → (s : ℕ) × ((u : UsedRow) × (slice_index_or xs s None ≡ Some u))
       some_slot [] h = absurd cc
       some_slot (None ∷ xs) h = let r = some_slot xs h in (suc r.0, (r.1.0, r.1.1))
       some_slot (Some u ∷ xs) h = (zero, (u, refl))
@@ -267,14 +268,14 @@ module _ (parts : List Part) (places : PlaceMap) (entries : List Entry) (claim :
   -- what a slot holds is what its row has
   pub held-at : (c s : ℕ) → seen_at parts c s ≡ option_map held_of (row_at (rows_of parts places entries) c s)
   held-at c s = by_slot (seen_at parts c s) refl where
-    by_slot : (o : Option UsedSlot) → seen_at parts c s ≡ o → o ≡ option_map held_of (row_at (rows_of parts places entries) c s)
+    by_slot : (o : Option UsedRow) → seen_at parts c s ≡ o → o ≡ option_map held_of (row_at (rows_of parts places entries) c s)
     by_slot None is = sym (ap (option_map held_of) (row_at-none parts places entries claim tied rise c s is))
     by_slot (Some used) is =
         let it = seen-row parts places entries claim tied rise c s used is in
-        ap Some (held used it.row (ap (λ q. q.rowid) it.is) (ap (λ q. q.vectors) it.is)) ∙ sym (ap (option_map held_of) (row_at-seen parts places entries claim tied rise c s used is))
+        ap Some (held used it.row (ap (λ q. q.rowid) it.is) (ap (λ q. q.vectors) it.is) (ap (λ q. q.cells) it.is)) ∙ sym (ap (option_map held_of) (row_at-seen parts places entries claim tied rise c s used is))
       where
-        held : (u : UsedSlot) (r : StoredRow) → r.rowid ≡ u.rowid → r.vectors ≡ u.vectors → u ≡ held_of r
-        held u r i v = rw (i, v) refl
+        held : (u : UsedRow) (r : StoredRow) → r.rowid ≡ u.rowid → r.vectors ≡ u.vectors → r.cells ≡ u.cells → u ≡ held_of r
+        held u r i v w = rw (i, v, w) refl
 
 -- ---- what is read at a place
 
@@ -282,21 +283,21 @@ pub never_valued : (places : PlaceMap) (c : ℕ) (values : List Value) → parti
 never_valued places c values is none = let never : Some values ≡ None = sym is ∙ none in absurd cc
 
 -- a slot that is seen is one of its chunk's
-pub slot-of_seen : (parts : List Part) (c s : ℕ) (slots : Slots) → slots_of parts c ≡ Some slots → seen_at parts c s ≡ slot_at slots s
+pub slot-of_seen : (parts : List Part) (c s : ℕ) (slots : RowSlots) → slots_of parts c ≡ Some slots → seen_at parts c s ≡ slot_at slots s
 slot-of_seen parts c s slots is = by_part (part_of parts c) is where
   by_part : (o : Option Part) → option_map (λ p. p.slots) o ≡ Some slots → seen_in o s ≡ slot_at slots s
   by_part None h = absurd cc
   by_part (Some p) h = let same : p.slots ≡ slots = cc in ap (λ x. slot_at x s) same
 
-pub never_seen : (parts : List Part) (c s : ℕ) (used : UsedSlot) → seen_at parts c s ≡ Some used → slots_of parts c ≡ None → ⊥
+pub never_seen : (parts : List Part) (c s : ℕ) (used : UsedRow) → seen_at parts c s ≡ Some used → slots_of parts c ≡ None → ⊥
 never_seen parts c s used seen none = by_part (part_of parts c) none seen where
   by_part : (o : Option Part) → option_map (λ p. p.slots) o ≡ None → seen_in o s ≡ Some used → ⊥
   by_part None h seen = absurd cc
   by_part (Some p) h seen = absurd cc
 
 -- the row by what is read of it
-pub row-shown : (i : ℤ) (c s : ℕ) (id id' : Option (List ℕ)) (values values' : List Value) (slots : Slots) (used : UsedSlot) → id' ≡ id → values ≡ values' → slot_at slots s ≡ Some used →
-    row_made i c s id values used.vectors ≡ row_made i c s id' values' (vectors_in (slot_at slots s))
+pub row-shown : (i : ℤ) (c s : ℕ) (id id' : Option (List ℕ)) (values values' : List Value) (slots : RowSlots) (used : UsedRow) → id' ≡ id → values ≡ values' → slot_at slots s ≡ Some used →
+    row_made i c s id values used.vectors used.cells ≡ row_made i c s id' values' (vectors_in (slot_at slots s)) (cells_in (slot_at slots s))
 row-shown i c s id id' values values' slots used same_id same_values seen = rw (same_id, same_values, seen) refl
 
 pub same_some : {A : Type 0} (a b : A) → Some a ≡ Some b → a ≡ b
@@ -304,7 +305,7 @@ same_some a b e = cc
 
 -- ---- chunks that are there
 
-part-such : (P : Part → Type 0) (ps : List Part) (c : ℕ) (p : Part) → AllByRecursion P ps → part_of ps c ≡ Some p → P p
+pub part-such : (P : Part → Type 0) (ps : List Part) (c : ℕ) (p : Part) → AllByRecursion P ps → part_of ps c ≡ Some p → P p
 part-such P [] c p all is = absurd cc
 part-such P (x ∷ xs) c p all is = by_test (x.number == c) is (λ later. part-such P xs c p all.1 later) where
   by_test : (t : Bool) → cond t (Some x) (part_of xs c) ≡ Some p → (part_of xs c ≡ Some p → P p) → P p
@@ -312,28 +313,33 @@ part-such P (x ∷ xs) c p all is = by_test (x.number == c) is (λ later. part-s
   by_test false h rest = rest h
 
 -- the part whose slots are these
-pub slots-part : (parts : List Part) (c : ℕ) (slots : Slots) → slots_of parts c ≡ Some slots → (p : Part) × ((part_of parts c ≡ Some p) × (p.slots ≡ slots))
+pub slots-part : (parts : List Part) (c : ℕ) (slots : RowSlots) → slots_of parts c ≡ Some slots → (p : Part) × ((part_of parts c ≡ Some p) × (p.slots ≡ slots))
 slots-part parts c slots is = mapped-some (λ p. p.slots) (part_of parts c) slots is
 
 -- slots have the shape of all chunks
-pub record HaveShape (size : ℕ) (widths : List ℕ) (slots : Slots) : Type 0 where
-  pub long : length slots.slots ≡ size
-  pub wide : slots.widths ≡ widths
+pub record HaveShape (alike : Shape) (slots : RowSlots) : Type 0 where
+  pub long : length slots.slots ≡ alike.size
+  pub wide : slots.widths ≡ alike.widths
+  pub celled : slots.kinds ≡ alike.kinds
 
-pub slots-shape : (size : ℕ) (widths : List ℕ) (parts : List Part) (c : ℕ) (slots : Slots) → ArePartsOf size widths parts → slots_of parts c ≡ Some slots → HaveShape size widths slots
-slots-shape size widths parts c slots are is =
+pub slots-shape : (alike : Shape) (parts : List Part) (c : ℕ) (slots : RowSlots) → ArePartsOf alike parts → slots_of parts c ≡ Some slots → HaveShape alike slots
+slots-shape alike parts c slots are is =
     let m = slots-part parts c slots is in
-    let shape : HasShape size widths m.0 = part-such (HasShape size widths) parts c m.0 are.shaped m.1.0 in
-    record { long = ap (λ x. length x.slots) (sym m.1.1) ∙ shape.long; wide = ap (λ x. x.widths) (sym m.1.1) ∙ shape.wide }
+    let shape : HasShape alike m.0 = part-such (HasShape alike) parts c m.0 are.shaped m.1.0 in
+    record {
+      long = ap (λ x. length x.slots) (sym m.1.1) ∙ shape.long;
+      wide = ap (λ x. x.widths) (sym m.1.1) ∙ shape.wide;
+      celled = ap (λ x. x.kinds) (sym m.1.1) ∙ shape.celled;
+    }
 
-module _ (parts : List Part) (places : PlaceMap) (entries : List Entry) (claim : Option RowPlace) (size : ℕ) (widths : List ℕ)
-    (tied : AreTied parts places entries claim) (rise : is_rising entries ≡ true) (are : ArePartsOf size widths parts) where
+module _ (parts : List Part) (places : PlaceMap) (entries : List Entry) (claim : Option RowPlace) (alike : Shape)
+    (tied : AreTied parts places entries claim) (rise : is_rising entries ≡ true) (are : ArePartsOf alike parts) where
   -- a chunk is there just where it has a row
   pub part-first : (c : ℕ) → is_some (part_of parts c) ≡ is_some (first_in (rows_of parts places entries) c)
   part-first c = by_part (part_of parts c) refl where
     by_part : (o : Option Part) → part_of parts c ≡ o → is_some o ≡ is_some (first_in (rows_of parts places entries) c)
     by_part None is = sym (ap is_some (first-nowhere parts places entries claim tied rise c is))
-    by_part (Some p) is = sym (first-there parts places entries claim tied rise size widths c p (part-such (HasShape size widths) parts c p are.shaped is) is)
+    by_part (Some p) is = sym (first-there parts places entries claim tied rise alike c p (part-such (HasShape alike) parts c p are.shaped is) is)
 
   pub slots-first : (c : ℕ) → is_some (slots_of parts c) ≡ is_some (first_in (rows_of parts places entries) c)
   slots-first c = by_part (part_of parts c) ∙ part-first c where
@@ -348,7 +354,7 @@ module _ (parts : List Part) (places : PlaceMap) (entries : List Entry) (claim :
 
 -- ---- what holds of an answer
 
-pub if_slots : (P : Slots → Type 0) (o : Option (Bor Slots)) → ((x : Slots) → option_copied o ≡ Some x → P x) → IfSome o (λ s. P s.now)
+pub if_slots : (P : RowSlots → Type 0) (o : Option (Bor RowSlots)) → ((x : RowSlots) → option_copied o ≡ Some x → P x) → IfSome o (λ s. P s.now)
 if_slots P None each = tt
 if_slots P (Some s) each = each s.now refl
 
@@ -390,7 +396,7 @@ positive_at : (places : PlaceMap) (c s : ℕ) → IsPlaceMap places → is_used 
 positive_at places zero s known used = let never : true ≡ false = sym (chunk_used places 0 s used) ∙ known.positive in absurd cc
 positive_at places (suc c) s known used = omega arith
 
-part-seen : (parts : List Part) (c s : ℕ) (used : UsedSlot) → seen_at parts c s ≡ Some used → (p : Part) × ((part_of parts c ≡ Some p) × (slot_at p.slots s ≡ Some used))
+part-seen : (parts : List Part) (c s : ℕ) (used : UsedRow) → seen_at parts c s ≡ Some used → (p : Part) × ((part_of parts c ≡ Some p) × (slot_at p.slots s ≡ Some used))
 part-seen parts c s used seen = by_part (part_of parts c) refl seen where
   by_part : (o : Option Part) → part_of parts c ≡ o → seen_in o s ≡ Some used → (p : Part) × ((part_of parts c ≡ Some p) × (slot_at p.slots s ≡ Some used))
   by_part None is h = absurd cc
@@ -401,8 +407,8 @@ lt_self a b e h = let same : int_lt b b ≡ true = ap (λ z. int_lt z b) (sym e)
   not_below : (z : ℤ) → int_lt z z ≡ false
   not_below z = grind (arith, ints)
 
-module _ (parts : List Part) (places : PlaceMap) (entries : List Entry) (claim : Option RowPlace) (size : ℕ) (widths : List ℕ)
-    (tied : AreTied parts places entries claim) (rise : is_rising entries ≡ true) (are : ArePartsOf size widths parts) (known : IsPlaceMap places) (sized : places.size ≡ size) where
+module _ (parts : List Part) (places : PlaceMap) (entries : List Entry) (claim : Option RowPlace) (alike : Shape)
+    (tied : AreTied parts places entries claim) (rise : is_rising entries ≡ true) (are : ArePartsOf alike parts) (known : IsPlaceMap places) (sized : places.size ≡ alike.size) where
   rows-rise : keys_rise rowid_of (rows_of parts places entries) ≡ true
   rows-rise = picked-rise entry_rowid rowid_of (row_from parts places) entries (keeps parts places) (entries_rise entries rise)
 
@@ -415,14 +421,14 @@ module _ (parts : List Part) (places : PlaceMap) (entries : List Entry) (claim :
   narrow_row : (r : StoredRow) → Seen r → r.chunk < 2 ^ 32
   narrow_row r s =
       let p = part-seen parts r.chunk r.slot s.used s.seen in
-      let shape : HasShape size widths p.0 = part-such (HasShape size widths) parts r.chunk p.0 are.shaped p.1.0 in
+      let shape : HasShape alike p.0 = part-such (HasShape alike) parts r.chunk p.0 are.shaped p.1.0 in
       let number : p.0.number ≡ r.chunk = part_of-number parts r.chunk p.0 p.1.0 in
       subst (λ n. n < 2 ^ 32) number shape.narrow
 
-  wide_row : (r : StoredRow) → Seen r → map length r.vectors ≡ widths
+  wide_row : (r : StoredRow) → Seen r → map length r.vectors ≡ alike.widths
   wide_row r s =
       let p = part-seen parts r.chunk r.slot s.used s.seen in
-      let shape : HasShape size widths p.0 = part-such (HasShape size widths) parts r.chunk p.0 are.shaped p.1.0 in
+      let shape : HasShape alike p.0 = part-such (HasShape alike) parts r.chunk p.0 are.shaped p.1.0 in
       ap (map length) s.vectors ∙ shape.vectors r.slot s.used p.1.1
 
   apart_rows : (r q : StoredRow) → Seen r → Seen q → int_lt r.rowid q.rowid ≡ true → r.chunk ≡ q.chunk → r.slot ≡ q.slot → ⊥
@@ -434,13 +440,13 @@ module _ (parts : List Part) (places : PlaceMap) (entries : List Entry) (claim :
   alike_rows : (r q : StoredRow) → Seen r → Seen q → r.chunk ≡ q.chunk → r.partition ≡ q.partition
   alike_rows r q s t c_is = same_some r.partition q.partition (sym s.valued ∙ ap (partition_of_chunk places) c_is ∙ t.valued)
 
-  pub rows-known : AreRows size widths (rows_of parts places entries)
+  pub rows-known : AreRows alike.size alike.widths (rows_of parts places entries)
   rows-known = record {
     rising = rows-rise;
     positive = all-turned Seen (λ row. 0 < row.chunk) _ (λ r s. positive_at places r.chunk r.slot known s.taken) all-seen;
     narrow = all-turned Seen (λ row. row.chunk < 2 ^ 32) _ narrow_row all-seen;
-    within = all-turned Seen (λ row. row.slot < size) _ (λ r s. subst (λ n. r.slot < n) sized (known.within r.chunk r.slot s.taken)) all-seen;
-    wide = all-turned Seen (λ row. map length row.vectors ≡ widths) _ wide_row all-seen;
+    within = all-turned Seen (λ row. row.slot < alike.size) _ (λ r s. subst (λ n. r.slot < n) sized (known.within r.chunk r.slot s.taken)) all-seen;
+    wide = all-turned Seen (λ row. map length row.vectors ≡ alike.widths) _ wide_row all-seen;
     apart = pairs-by_key rowid_of Seen (λ row later. row.chunk ≡ later.chunk → row.slot ≡ later.slot → ⊥) _ rows-rise all-seen apart_rows;
     alike = pairs-by_key rowid_of Seen (λ row later. row.chunk ≡ later.chunk → row.partition ≡ later.partition) _ rows-rise all-seen (λ r q s t lt. alike_rows r q s t);
   }

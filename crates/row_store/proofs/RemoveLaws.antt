@@ -6,7 +6,7 @@ use Rattle.std.specs.Ordering.{int_eq}
 use Rattle.std.specs.declared.option.Option.{Option}
 use Rattle.std.proofs.lemmas.Bool.{and_parts}
 use Rattle.std.proofs.lemmas.Int.{ints}
-use Rattle.chunk_slots.specs.Slots.{UsedSlot}
+use Rattle.row_chunks.specs.RowSlots.{UsedRow}
 use Rattle.row_index.specs.Entries.{is_rising, entry_of}
 use Rattle.row_index.specs.declared.entry.Entry.{Entry}
 use Rattle.slot_alloc.specs.Places.{PlaceMap}
@@ -14,6 +14,7 @@ use Rattle.row_store.specs.Keyed.{keys_rise, keyed_by, without_key}
 use Rattle.row_store.specs.StoredRows.{StoredRow, rowid_of, row_of, row_at, lies_at, without}
 use Rattle.row_store.specs.Touches.{Touches, StoreState, KeepsOrigin, is_touched_place}
 use Rattle.row_store.specs.declared.part.Part.{Part}
+use Rattle.row_store.specs.declared.shape.Shape.{Shape}
 use Rattle.row_store.specs.declared.place.RowPlace.{RowPlace}
 use Rattle.row_store.specs.declared.rows.Rows.{Rows}
 use Rattle.row_store.specs.inner.Parts.{seen_at, ArePartsOf, IsChangedAt, KeepShapes}
@@ -52,7 +53,7 @@ found-without_members {A} key test i (x ∷ xs) others = by_key (int_eq (key x) 
 
 -- ---- one rowid has one slot
 
-pub one_slot : (parts : List Part) (places : PlaceMap) (entries : List Entry) (claim : Option RowPlace) → AreTied parts places entries claim → (c s d t : ℕ) (u v : UsedSlot) →
+pub one_slot : (parts : List Part) (places : PlaceMap) (entries : List Entry) (claim : Option RowPlace) → AreTied parts places entries claim → (c s d t : ℕ) (u v : UsedRow) →
     seen_at parts c s ≡ Some u → seen_at parts d t ≡ Some v → u.rowid ≡ v.rowid → (c ≡ d) × (s ≡ t)
 one_slot parts places entries claim tied c s d t u v seen seen' same =
     let x = tied.entered c s u seen in
@@ -61,8 +62,38 @@ one_slot parts places entries claim tied c s d t u v seen seen' same =
     let e_is : x.0 ≡ y.0 = cc in
     (sym x.1.1.0 ∙ ap (λ e. e.chunk) e_is ∙ y.1.1.0, sym x.1.1.1 ∙ ap (λ e. e.slot) e_is ∙ y.1.1.1)
 
-module _ (size count : ℕ) (widths : List ℕ) (before after : Touches) (rows found : Rows) (parts : List Part) (rowid : ℤ) (at : RowPlace)
-    (kept : IsKept size widths count before.places.size rows) (old_parts : found.parts ≡ rows.parts)
+-- ---- a row that is found
+
+module _ (found : Rows) (after : Touches) (rowid : ℤ) (at : RowPlace)
+    (free : AreTied found.parts found.places found.index None) where
+  pub row-found : is_rising found.index ≡ true → (here : IsFoundRow found after rowid at) → (row : StoredRow) × (row_of rowid (seen_rows found) ≡ Some row)
+  row-found rise here =
+      let it = seen-row found.parts found.places found.index None free rise at.chunk at.slot here.used here.seen in (
+        it.row,
+        row_of-entry found.parts found.places found.index None free rise rowid
+            ∙ ap (λ i. option_and_then (row_from found.parts found.places) (entry_of i found.index)) (sym here.same)
+            ∙ ap (option_and_then (row_from found.parts found.places)) it.there ∙ it.gives,
+      )
+
+  -- rows of the rowid lie at the touched place alone
+  pub only-there : (here : IsFoundRow found after rowid at) (c s : ℕ) → is_touched_place after c s ≡ false → AllByRecursion (λ r. int_eq (rowid_of r) rowid ≡ true → lies_at c s r ≡ false) (seen_rows found)
+  only-there here c s out = all-picked (row_from found.parts found.places) (λ r. int_eq (rowid_of r) rowid ≡ true → lies_at c s r ≡ false) found.index (λ e r is own. not_here e r (row-told found.parts found.places e r is) own) where
+    not_here : (e : Entry) (r : StoredRow) → IsRowOf found.parts found.places e r → int_eq (rowid_of r) rowid ≡ true → lies_at c s r ≡ false
+    not_here e r told own = by_test (lies_at c s r) refl where
+      by_test : (t : Bool) → lies_at c s r ≡ t → lies_at c s r ≡ false
+      by_test false h = h
+      by_test true h =
+          let p = both_equal c r.chunk s r.slot h in
+          let i_is : told.used.rowid ≡ here.used.rowid = told.own ∙ sym (ap (λ z. z.rowid) told.is) ∙ eq_from (rowid_of r) rowid own ∙ sym here.same in
+          let q = one_slot found.parts found.places found.index None free e.chunk e.slot at.chunk at.slot told.used here.used told.seen here.seen i_is in
+          let c_is : c ≡ at.chunk = p.0 ∙ ap (λ z. z.chunk) told.is ∙ q.0 in
+          let s_is : s ≡ at.slot = p.1 ∙ ap (λ z. z.slot) told.is ∙ q.1 in
+          let there : is_touched_place after c s ≡ true = ap (λ d. is_touched_place after d s) c_is ∙ ap (is_touched_place after at.chunk) s_is ∙ here.spot in
+          let never : true ≡ false = sym there ∙ out in
+          absurd cc
+
+module _ (alike : Shape) (count : ℕ) (before after : Touches) (rows found : Rows) (parts : List Part) (rowid : ℤ) (at : RowPlace)
+    (kept : IsKept alike count before.places.size rows) (old_parts : found.parts ≡ rows.parts)
     (tied : AreTied found.parts found.places found.index found.claim)
     (same : seen_rows found ≡ seen_rows rows) (sized : found.places.size ≡ rows.places.size) (wider : IsWider before after)
     (here : IsFoundRow found after rowid at) (rise : is_rising found.index ≡ true)
@@ -83,13 +114,7 @@ module _ (size count : ℕ) (widths : List ℕ) (before after : Touches) (rows f
 
   -- the row was there
   pub was-there : (row : StoredRow) × (row_of rowid (seen_rows rows) ≡ Some row)
-  was-there =
-      let it = seen-row found.parts found.places found.index None free rise at.chunk at.slot here.used here.seen in (
-        it.row,
-        ap (row_of rowid) (sym same) ∙ row_of-entry found.parts found.places found.index None free rise rowid
-            ∙ ap (λ i. option_and_then (row_from found.parts found.places) (entry_of i found.index)) (sym here.same)
-            ∙ ap (option_and_then (row_from found.parts found.places)) it.there ∙ it.gives,
-      )
+  was-there = let it = row-found found after rowid at free rise here in (it.0, ap (row_of rowid) (sym same) ∙ it.1)
 
   rows_rise : keys_rise rowid_of (seen_rows rows) ≡ true
   rows_rise = ap (keys_rise rowid_of) (sym same) ∙ picked-rise entry_rowid rowid_of (row_from found.parts found.places) found.index (keeps found.parts found.places) (entries_rise found.index rise)
@@ -98,45 +123,30 @@ module _ (size count : ℕ) (widths : List ℕ) (before after : Touches) (rows f
   one-less = length-without rowid_of rowid (seen_rows rows) was-there.0 rows_rise was-there.1 ∙ sym kept.counted
 
   pub left-kept : (last : Rows) → last.parts ≡ parts → AreTied last.parts last.places last.index last.claim → seen_rows last ≡ rows_of parts found.places found.index → last.places.size ≡ found.places.size →
-      IsKept size widths (count - 1) after.places.size last
+      IsKept alike (count - 1) after.places.size last
   left-kept last parts_is last_tied last_rows last_size =
       let n = one-less in
       let m = ap length (last_rows ∙ left-rows) in
       record {
         chunks = kept.chunks;
-        shapes = subst (ArePartsOf size widths) (sym parts_is) (shapes size widths (subst (ArePartsOf size widths) (sym old_parts) kept.shapes));
+        cells = kept.cells;
+        shapes = subst (ArePartsOf alike) (sym parts_is) (shapes alike (subst (ArePartsOf alike) (sym old_parts) kept.shapes));
         sized = last_size ∙ sized ∙ kept.sized;
         counted = omega (arith, n, m);
         touching = wider.places.size ∙ kept.touching;
         tied = last_tied;
       }
 
-  -- rows of the rowid lie at the touched place alone
   elsewhere : (c s : ℕ) → is_touched_place after c s ≡ false → row_at (without rowid (seen_rows rows)) c s ≡ row_at (seen_rows rows) c s
   elsewhere c s out =
       found-without_members rowid_of (lies_at c s) rowid (seen_rows rows)
-      (subst (AllByRecursion (λ r. int_eq (rowid_of r) rowid ≡ true → lies_at c s r ≡ false)) same
-      (all-picked (row_from found.parts found.places) (λ r. int_eq (rowid_of r) rowid ≡ true → lies_at c s r ≡ false) found.index (λ e r is own. not_here e r (row-told found.parts found.places e r is) own)))
-    where
-      not_here : (e : Entry) (r : StoredRow) → IsRowOf found.parts found.places e r → int_eq (rowid_of r) rowid ≡ true → lies_at c s r ≡ false
-      not_here e r told own = by_test (lies_at c s r) refl where
-        by_test : (t : Bool) → lies_at c s r ≡ t → lies_at c s r ≡ false
-        by_test false h = h
-        by_test true h =
-            let p = both_equal c r.chunk s r.slot h in
-            let i_is : told.used.rowid ≡ here.used.rowid = told.own ∙ sym (ap (λ z. z.rowid) told.is) ∙ eq_from (rowid_of r) rowid own ∙ sym here.same in
-            let q = one_slot found.parts found.places found.index None free e.chunk e.slot at.chunk at.slot told.used here.used told.seen here.seen i_is in
-            let c_is : c ≡ at.chunk = p.0 ∙ ap (λ z. z.chunk) told.is ∙ q.0 in
-            let s_is : s ≡ at.slot = p.1 ∙ ap (λ z. z.slot) told.is ∙ q.1 in
-            let there : is_touched_place after c s ≡ true = ap (λ d. is_touched_place after d s) c_is ∙ ap (is_touched_place after at.chunk) s_is ∙ here.spot in
-            let never : true ≡ false = sym there ∙ out in
-            absurd cc
+      (subst (AllByRecursion (λ r. int_eq (rowid_of r) rowid ≡ true → lies_at c s r ≡ false)) same (only-there found after rowid at free here c s out))
 
   abbrev state_before : StoreState
-  state_before = record { size = size; widths = widths; rows = seen_rows rows; touches = before }
+  state_before = record { size = alike.size; widths = alike.widths; kinds = alike.kinds; rows = seen_rows rows; touches = before }
 
-  pub left-origin : (last : List StoredRow) → last ≡ rows_of parts found.places found.index → KeepsOrigin state_before (record { size = size; widths = widths; rows = last; touches = after })
-  left-origin last is = follows-removed state_before (record { size = size; widths = widths; rows = last; touches = after }) rowid at.chunk at.slot wider here.row here.spot elsewhere (is ∙ left-rows)
+  pub left-origin : (last : List StoredRow) → last ≡ rows_of parts found.places found.index → KeepsOrigin state_before (record { size = alike.size; widths = alike.widths; kinds = alike.kinds; rows = last; touches = after })
+  left-origin last is = follows-removed state_before (record { size = alike.size; widths = alike.widths; kinds = alike.kinds; rows = last; touches = after }) rowid at.chunk at.slot wider here.row here.spot elsewhere (is ∙ left-rows)
 
 -- where no element has the key, all stay
 pub without-none : {A : Type 0} (key : A → ℤ) (i : ℤ) (xs : List A) → keyed_by key i xs ≡ None → without_key key i xs ≡ xs

@@ -9,7 +9,7 @@ use Rattle.std.specs.declared.option.Option.{Option}
 use Rattle.std.proofs.lemmas.Bool.{and_parts, and_from, cond-true, cond-false}
 use Rattle.std.proofs.lemmas.Int.{ints}
 use Rattle.vec_base.specs.declared.value.Value.{Value}
-use Rattle.chunk_slots.specs.Slots.{UsedSlot}
+use Rattle.row_chunks.specs.RowSlots.{UsedRow}
 use Rattle.row_index.specs.Entries.{entry_of, has_rowid, is_rising, with_entry, without as without_entry}
 use Rattle.row_index.specs.declared.entry.Entry.{Entry}
 use Rattle.slot_alloc.specs.Changes.{UsesAlso, UsesNoMore}
@@ -53,29 +53,29 @@ some_is (Some x) h = (x, refl)
 
 -- ---- rows of entries
 
-row_in-key : (partition : Option (List Value)) (e : Entry) (o : Option UsedSlot) (r : StoredRow) → row_in partition e o ≡ Some r → rowid_of r ≡ e.rowid
+row_in-key : (partition : Option (List Value)) (e : Entry) (o : Option UsedRow) (r : StoredRow) → row_in partition e o ≡ Some r → rowid_of r ≡ e.rowid
 row_in-key partition e None r is = absurd cc
 row_in-key partition e (Some used) r is = by_test (int_eq used.rowid e.rowid) is where
-  by_test : (t : Bool) → cond t (Some (record { rowid = e.rowid; chunk = e.chunk; slot = e.slot; id = e.id; partition = values_or_none partition; vectors = used.vectors })) None ≡ Some r → rowid_of r ≡ e.rowid
-  by_test true same = let is : record { rowid = e.rowid; chunk = e.chunk; slot = e.slot; id = e.id; partition = values_or_none partition; vectors = used.vectors } ≡ r = cc in ap rowid_of (sym is)
+  by_test : (t : Bool) → cond t (Some (record { rowid = e.rowid; chunk = e.chunk; slot = e.slot; id = e.id; partition = values_or_none partition; vectors = used.vectors; cells = used.cells })) None ≡ Some r → rowid_of r ≡ e.rowid
+  by_test true same = let is : record { rowid = e.rowid; chunk = e.chunk; slot = e.slot; id = e.id; partition = values_or_none partition; vectors = used.vectors; cells = used.cells } ≡ r = cc in ap rowid_of (sym is)
   by_test false same = absurd cc
 
 pub keeps : (parts : List Part) (places : PlaceMap) → KeepsKeys entry_rowid rowid_of (row_from parts places)
 keeps parts places e r is = row_in-key (partition_of_chunk places e.chunk) e (seen_at parts e.chunk e.slot) r is
 
 -- an entry has a row exactly where the slot is used by its rowid
-pub row_in-some : (partition : Option (List Value)) (e : Entry) (o : Option UsedSlot) → is_some (row_in partition e o) ≡ true → (used : UsedSlot) × ((o ≡ Some used) × (used.rowid ≡ e.rowid))
+pub row_in-some : (partition : Option (List Value)) (e : Entry) (o : Option UsedRow) → is_some (row_in partition e o) ≡ true → (used : UsedRow) × ((o ≡ Some used) × (used.rowid ≡ e.rowid))
 row_in-some partition e None h = absurd cc
 row_in-some partition e (Some used) h = (used, (refl, by_test (int_eq used.rowid e.rowid) refl h)) where
-  by_test : (t : Bool) → int_eq used.rowid e.rowid ≡ t → is_some {T = StoredRow} (cond t (Some (record { rowid = e.rowid; chunk = e.chunk; slot = e.slot; id = e.id; partition = values_or_none partition; vectors = used.vectors })) None) ≡ true → used.rowid ≡ e.rowid
+  by_test : (t : Bool) → int_eq used.rowid e.rowid ≡ t → is_some {T = StoredRow} (cond t (Some (record { rowid = e.rowid; chunk = e.chunk; slot = e.slot; id = e.id; partition = values_or_none partition; vectors = used.vectors; cells = used.cells })) None) ≡ true → used.rowid ≡ e.rowid
   by_test true same s = eq_from used.rowid e.rowid same
   by_test false same s = absurd cc
 
-pub row_in-is : (partition : Option (List Value)) (e : Entry) (o : Option UsedSlot) (used : UsedSlot) → o ≡ Some used → used.rowid ≡ e.rowid →
-    row_in partition e o ≡ Some (record { rowid = e.rowid; chunk = e.chunk; slot = e.slot; id = e.id; partition = values_or_none partition; vectors = used.vectors })
+pub row_in-is : (partition : Option (List Value)) (e : Entry) (o : Option UsedRow) (used : UsedRow) → o ≡ Some used → used.rowid ≡ e.rowid →
+    row_in partition e o ≡ Some (record { rowid = e.rowid; chunk = e.chunk; slot = e.slot; id = e.id; partition = values_or_none partition; vectors = used.vectors; cells = used.cells })
 row_in-is partition e o used is same = ap (row_in partition e) is ∙ cond-true _ _ _ (eq_to used.rowid e.rowid same)
 
-row_in-none : (partition : Option (List Value)) (e : Entry) (o : Option UsedSlot) → ((used : UsedSlot) → o ≡ Some used → int_eq used.rowid e.rowid ≡ false) → row_in partition e o ≡ None
+pub row_in-none : (partition : Option (List Value)) (e : Entry) (o : Option UsedRow) → ((used : UsedRow) → o ≡ Some used → int_eq used.rowid e.rowid ≡ false) → row_in partition e o ≡ None
 row_in-none partition e None other = refl
 row_in-none partition e (Some used) other = cond-false _ _ _ (other used refl)
 
@@ -140,7 +140,7 @@ module _ (parts : List Part) (places new : PlaceMap) (entries : List Entry) (cla
 
   pub claimed-row : (e : Entry) → row_from parts new e ≡ row_from parts places e
   claimed-row e = by_slot (seen_at parts e.chunk e.slot) refl where
-    by_slot : (o : Option UsedSlot) → seen_at parts e.chunk e.slot ≡ o → row_in (partition_of_chunk new e.chunk) e o ≡ row_in (partition_of_chunk places e.chunk) e o
+    by_slot : (o : Option UsedRow) → seen_at parts e.chunk e.slot ≡ o → row_in (partition_of_chunk new e.chunk) e o ≡ row_in (partition_of_chunk places e.chunk) e o
     by_slot None is = refl
     by_slot (Some used) is = ap (λ p. row_in p e (Some used)) (same_partition e.chunk e.slot (tied.placed e.chunk e.slot (ap is_some is)))
 
@@ -150,7 +150,7 @@ module _ (parts : List Part) (places new : PlaceMap) (entries : List Entry) (cla
     by_test true = refl
     by_test false = refl
 
-  pub claimed-tied : ((c s : ℕ) (used : UsedSlot) → seen_at parts c s ≡ Some used → int_eq claim.rowid used.rowid ≡ false) → AreTied parts new entries (Some claim)
+  pub claimed-tied : ((c s : ℕ) (used : UsedRow) → seen_at parts c s ≡ Some used → int_eq claim.rowid used.rowid ≡ false) → AreTied parts new entries (Some claim)
   claimed-tied apart = record {
     entered = tied.entered;
     placed = λ c s seen. used_now c s ∙ or_true (c == claim.chunk && s == claim.slot) (is_used places c s) (tied.placed c s seen);
@@ -166,7 +166,7 @@ module _ (parts : List Part) (places new : PlaceMap) (entries : List Entry) (cla
 
     not_seen : (c s : ℕ) → (c == claim.chunk && s == claim.slot) ≡ true → seen_at parts c s ≡ None
     not_seen c s is = by_slot (seen_at parts c s) refl where
-      by_slot : (o : Option UsedSlot) → seen_at parts c s ≡ o → o ≡ None
+      by_slot : (o : Option UsedRow) → seen_at parts c s ≡ o → o ≡ None
       by_slot None seen = refl
       by_slot (Some used) seen =
           let p = both_equal c claim.chunk s claim.slot is in
@@ -210,7 +210,7 @@ module _ (parts : List Part) (places : PlaceMap) (entries : List Entry) (claim :
 
 -- ---- 3. the row of a claim takes its slot
 
-module _ (parts new : List Part) (places : PlaceMap) (entries : List Entry) (claim : RowPlace) (e : Entry) (used : UsedSlot) (partition : List Value)
+module _ (parts new : List Part) (places : PlaceMap) (entries : List Entry) (claim : RowPlace) (e : Entry) (used : UsedRow) (partition : List Value)
     (tied : AreTied parts places entries (Some claim)) (rise : is_rising entries ≡ true)
     (there : entry_of claim.rowid entries ≡ Some e) (chunk : e.chunk ≡ claim.chunk) (slot : e.slot ≡ claim.slot)
     (own : used.rowid ≡ claim.rowid) (change : IsChangedAt claim.chunk claim.slot (Some used) parts new)
@@ -226,7 +226,7 @@ module _ (parts new : List Part) (places : PlaceMap) (entries : List Entry) (cla
 
   -- the row that came
   abbrev put_row : StoredRow
-  put_row = record { rowid = claim.rowid; chunk = claim.chunk; slot = claim.slot; id = e.id; partition = partition; vectors = used.vectors }
+  put_row = record { rowid = claim.rowid; chunk = claim.chunk; slot = claim.slot; id = e.id; partition = partition; vectors = used.vectors; cells = used.cells }
 
   new_row : row_from new places e ≡ Some put_row
   new_row = row_in-is (partition_of_chunk places e.chunk) e (seen_at new e.chunk e.slot) used seen_here (own ∙ sym e_rowid) ∙ rw (e_rowid, chunk, slot, values) refl
@@ -244,7 +244,7 @@ module _ (parts new : List Part) (places : PlaceMap) (entries : List Entry) (cla
         apart : (a b : ℤ) → int_eq b a ≡ false → int_eq a b ≡ false
         apart a b h = grind (arith, ints)
 
-        not_own : (u : UsedSlot) → Some u ≡ Some used → int_eq u.rowid x.rowid ≡ false
+        not_own : (u : UsedRow) → Some u ≡ Some used → int_eq u.rowid x.rowid ≡ false
         not_own u same = let is : u ≡ used = cc in ap (λ w. int_eq w.rowid x.rowid) is ∙ ap (λ i. int_eq i x.rowid) own ∙ apart claim.rowid x.rowid other
     by_place false is = ap (row_in (partition_of_chunk places x.chunk) x) (sym (change.seen x.chunk x.slot ∙ cond-false _ _ _ is))
 
@@ -266,7 +266,7 @@ module _ (parts new : List Part) (places : PlaceMap) (entries : List Entry) (cla
     free = λ c s never. absurd cc;
     absent = λ c s u seen. refl;
   } where
-    entered : (c s : ℕ) (u : UsedSlot) → seen_at new c s ≡ Some u → (t : Bool) → (c == claim.chunk && s == claim.slot) ≡ t → (x : Entry) × ((entry_of u.rowid entries ≡ Some x) × ((x.chunk ≡ c) × (x.slot ≡ s)))
+    entered : (c s : ℕ) (u : UsedRow) → seen_at new c s ≡ Some u → (t : Bool) → (c == claim.chunk && s == claim.slot) ≡ t → (x : Entry) × ((entry_of u.rowid entries ≡ Some x) × ((x.chunk ≡ c) × (x.slot ≡ s)))
     entered c s u seen true is =
         let p = both_equal c claim.chunk s claim.slot is in
         let same : Some used ≡ Some u = sym (change.seen c s ∙ cond-true _ _ _ is) ∙ seen in
@@ -299,7 +299,7 @@ module _ (parts new : List Part) (places : PlaceMap) (entries : List Entry) (cla
 
 -- ---- 4. a row leaves its slot
 
-module _ (parts new : List Part) (places : PlaceMap) (entries : List Entry) (claim : RowPlace) (used : UsedSlot)
+module _ (parts new : List Part) (places : PlaceMap) (entries : List Entry) (claim : RowPlace) (used : UsedRow)
     (tied : AreTied parts places entries None) (rise : is_rising entries ≡ true)
     (seen : seen_at parts claim.chunk claim.slot ≡ Some used) (own : used.rowid ≡ claim.rowid)
     (change : IsChangedAt claim.chunk claim.slot None parts new) where
@@ -307,13 +307,13 @@ module _ (parts new : List Part) (places : PlaceMap) (entries : List Entry) (cla
   left_others c s other = change.seen c s ∙ cond-false _ _ _ other
 
   -- what is seen now was seen, and has another rowid
-  was_seen : (c s : ℕ) (u : UsedSlot) → seen_at new c s ≡ Some u → ((c == claim.chunk && s == claim.slot) ≡ false) × (seen_at parts c s ≡ Some u)
+  was_seen : (c s : ℕ) (u : UsedRow) → seen_at new c s ≡ Some u → ((c == claim.chunk && s == claim.slot) ≡ false) × (seen_at parts c s ≡ Some u)
   was_seen c s u is = by_place (c == claim.chunk && s == claim.slot) refl where
     by_place : (t : Bool) → (c == claim.chunk && s == claim.slot) ≡ t → ((c == claim.chunk && s == claim.slot) ≡ false) × (seen_at parts c s ≡ Some u)
     by_place true at = let never : None ≡ Some u = sym (change.seen c s ∙ cond-true _ _ _ at) ∙ is in absurd cc
     by_place false at = (at, sym (left_others c s at) ∙ is)
 
-  other_rowid : (c s : ℕ) (u : UsedSlot) → seen_at new c s ≡ Some u → int_eq claim.rowid u.rowid ≡ false
+  other_rowid : (c s : ℕ) (u : UsedRow) → seen_at new c s ≡ Some u → int_eq claim.rowid u.rowid ≡ false
   other_rowid c s u is = by_test (int_eq claim.rowid u.rowid) refl where
     by_test : (t : Bool) → int_eq claim.rowid u.rowid ≡ t → int_eq claim.rowid u.rowid ≡ false
     by_test false h = h
@@ -348,7 +348,7 @@ module _ (parts new : List Part) (places : PlaceMap) (entries : List Entry) (cla
         apart : (a b : ℤ) → int_eq b a ≡ false → int_eq a b ≡ false
         apart a b h = grind (arith, ints)
 
-        not_own : (u : UsedSlot) → Some u ≡ Some used → int_eq u.rowid x.rowid ≡ false
+        not_own : (u : UsedRow) → Some u ≡ Some used → int_eq u.rowid x.rowid ≡ false
         not_own u same = let is_u : u ≡ used = cc in ap (λ w. int_eq w.rowid x.rowid) is_u ∙ ap (λ i. int_eq i x.rowid) own ∙ apart claim.rowid x.rowid other
     by_place false is = ap (row_in (partition_of_chunk places x.chunk) x) (sym (left_others x.chunk x.slot is))
 
@@ -429,7 +429,7 @@ module _ (parts : List Part) (places new : PlaceMap) (entries : List Entry) (cla
 
   pub given-row : (e : Entry) → row_from parts new e ≡ row_from parts places e
   given-row e = by_slot (seen_at parts e.chunk e.slot) refl where
-    by_slot : (o : Option UsedSlot) → seen_at parts e.chunk e.slot ≡ o → row_in (partition_of_chunk new e.chunk) e o ≡ row_in (partition_of_chunk places e.chunk) e o
+    by_slot : (o : Option UsedRow) → seen_at parts e.chunk e.slot ≡ o → row_in (partition_of_chunk new e.chunk) e o ≡ row_in (partition_of_chunk places e.chunk) e o
     by_slot None is = refl
     by_slot (Some used) is = ap (λ p. row_in p e (Some used)) (same_values e.chunk e.slot (ap is_some is))
 

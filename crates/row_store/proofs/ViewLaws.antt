@@ -8,7 +8,7 @@ use Rattle.std.specs.declared.option.Option.{Option}
 use Rattle.std.proofs.lemmas.Bool.{and_parts, cond-true, cond-false}
 use Rattle.std.proofs.lemmas.Int.{ints}
 use Rattle.vec_base.specs.declared.value.Value.{Value}
-use Rattle.chunk_slots.specs.Slots.{UsedSlot}
+use Rattle.row_chunks.specs.RowSlots.{UsedRow}
 use Rattle.row_index.specs.Entries.{entry_of, is_rising, has_id, is_text, rowid_of as entry_rowid_of}
 use Rattle.row_index.specs.declared.entry.Entry.{Entry}
 use Rattle.slot_alloc.specs.Places.{PlaceMap, IsPlaceMap, partition_at, partition_of_chunk, partition_in, partition_in_slot, chunk_with, is_used, has_chunk}
@@ -93,25 +93,25 @@ find-none_such test (r ∷ rs) all = cond-false _ _ _ all.0 ∙ find-none_such t
 
 -- what a row of an entry is
 pub record IsRowOf (parts : List Part) (places : PlaceMap) (e : Entry) (r : StoredRow) : Type 0 where
-  pub used : UsedSlot
+  pub used : UsedRow
   pub seen : seen_at parts e.chunk e.slot ≡ Some used
   pub own : used.rowid ≡ e.rowid
-  pub is : r ≡ record { rowid = e.rowid; chunk = e.chunk; slot = e.slot; id = e.id; partition = values_or_none (partition_of_chunk places e.chunk); vectors = used.vectors }
+  pub is : r ≡ record { rowid = e.rowid; chunk = e.chunk; slot = e.slot; id = e.id; partition = values_or_none (partition_of_chunk places e.chunk); vectors = used.vectors; cells = used.cells }
 
 pub row-told : (parts : List Part) (places : PlaceMap) (e : Entry) (r : StoredRow) → row_from parts places e ≡ Some r → IsRowOf parts places e r
 row-told parts places e r is =
     let s = row_in-some (partition_of_chunk places e.chunk) e (seen_at parts e.chunk e.slot) (ap is_some is) in
     let given = row_in-is (partition_of_chunk places e.chunk) e (seen_at parts e.chunk e.slot) s.0 s.1.0 s.1.1 in
-    let same : Some r ≡ Some (record { rowid = e.rowid; chunk = e.chunk; slot = e.slot; id = e.id; partition = values_or_none (partition_of_chunk places e.chunk); vectors = s.0.vectors }) = sym is ∙ given in
+    let same : Some r ≡ Some (record { rowid = e.rowid; chunk = e.chunk; slot = e.slot; id = e.id; partition = values_or_none (partition_of_chunk places e.chunk); vectors = s.0.vectors; cells = s.0.cells }) = sym is ∙ given in
     record { used = s.0; seen = s.1.0; own = s.1.1; is = some_same r _ same } where
       some_same : (a b : StoredRow) → Some a ≡ Some b → a ≡ b
       some_same a b e = cc
 
-abbrev row_made : PlaceMap → ℤ → ℕ → ℕ → Option (List ℕ) → List (List ℕ) → StoredRow
-row_made places i c s id vectors = record { rowid = i; chunk = c; slot = s; id = id; partition = values_or_none (partition_of_chunk places c); vectors = vectors }
+abbrev row_made : PlaceMap → ℤ → ℕ → ℕ → Option (List ℕ) → UsedRow → StoredRow
+row_made places i c s id used = record { rowid = i; chunk = c; slot = s; id = id; partition = values_or_none (partition_of_chunk places c); vectors = used.vectors; cells = used.cells }
 
-same_row : (places : PlaceMap) (used : UsedSlot) (e : Entry) (c s : ℕ) → used.rowid ≡ e.rowid → e.chunk ≡ c → e.slot ≡ s →
-    row_made places e.rowid e.chunk e.slot e.id used.vectors ≡ row_made places used.rowid c s e.id used.vectors
+same_row : (places : PlaceMap) (used : UsedRow) (e : Entry) (c s : ℕ) → used.rowid ≡ e.rowid → e.chunk ≡ c → e.slot ≡ s →
+    row_made places e.rowid e.chunk e.slot e.id used ≡ row_made places used.rowid c s e.id used
 same_row places used e c s own chunk slot = rw (own, chunk, slot) refl
 
 module _ (parts : List Part) (places : PlaceMap) (entries : List Entry) (claim : Option RowPlace)
@@ -121,16 +121,16 @@ module _ (parts : List Part) (places : PlaceMap) (entries : List Entry) (claim :
   row_of-entry i = picked-keyed entry_rowid rowid_of (row_from parts places) i entries (keeps parts places) (entries_rise entries rise)
 
   -- the row of a used slot
-  pub record IsSeenRow (c s : ℕ) (used : UsedSlot) : Type 0 where
+  pub record IsSeenRow (c s : ℕ) (used : UsedRow) : Type 0 where
     pub entry : Entry
     pub there : entry_of used.rowid entries ≡ Some entry
     pub chunk : entry.chunk ≡ c
     pub slot : entry.slot ≡ s
     pub row : StoredRow
     pub gives : row_from parts places entry ≡ Some row
-    pub is : row ≡ record { rowid = used.rowid; chunk = c; slot = s; id = entry.id; partition = values_or_none (partition_of_chunk places c); vectors = used.vectors }
+    pub is : row ≡ record { rowid = used.rowid; chunk = c; slot = s; id = entry.id; partition = values_or_none (partition_of_chunk places c); vectors = used.vectors; cells = used.cells }
 
-  pub seen-row : (c s : ℕ) (used : UsedSlot) → seen_at parts c s ≡ Some used → IsSeenRow c s used
+  pub seen-row : (c s : ℕ) (used : UsedRow) → seen_at parts c s ≡ Some used → IsSeenRow c s used
   seen-row c s used seen =
       let found = tied.entered c s used seen in
       let e = found.0 in
@@ -141,7 +141,7 @@ module _ (parts : List Part) (places : PlaceMap) (entries : List Entry) (claim :
         there = found.1.0;
         chunk = found.1.1.0;
         slot = found.1.1.1;
-        row = record { rowid = e.rowid; chunk = e.chunk; slot = e.slot; id = e.id; partition = values_or_none (partition_of_chunk places e.chunk); vectors = used.vectors };
+        row = record { rowid = e.rowid; chunk = e.chunk; slot = e.slot; id = e.id; partition = values_or_none (partition_of_chunk places e.chunk); vectors = used.vectors; cells = used.cells };
         gives = row_in-is (partition_of_chunk places e.chunk) e (seen_at parts e.chunk e.slot) used seen_e own;
         is = same_row places used e c s own found.1.1.0 found.1.1.1;
       }
@@ -157,7 +157,7 @@ module _ (parts : List Part) (places : PlaceMap) (entries : List Entry) (claim :
         let never : None ≡ Some told.used = sym none ∙ rw (c_is, s_is) told.seen in
         absurd cc
 
-  pub row_at-seen : (c s : ℕ) (used : UsedSlot) (seen : seen_at parts c s ≡ Some used) → row_at (rows_of parts places entries) c s ≡ Some (seen-row c s used seen).row
+  pub row_at-seen : (c s : ℕ) (used : UsedRow) (seen : seen_at parts c s ≡ Some used) → row_at (rows_of parts places entries) c s ≡ Some (seen-row c s used seen).row
   row_at-seen c s used seen =
       let it = seen-row c s used seen in
       find-picked_only entry_rowid (row_from parts places) (lies_at c s) used.rowid entries it.entry it.row it.there it.gives (rw it.is (same_place c s))
@@ -218,7 +218,7 @@ module _ (parts : List Part) (places : PlaceMap) (entries : List Entry)
 
   used_place : (c s : ℕ) → partition_at places c s ≡ option_map (λ row. row.partition) (row_at (rows_of parts places entries) c s)
   used_place c s = by_slot (seen_at parts c s) refl where
-    by_slot : (o : Option UsedSlot) → seen_at parts c s ≡ o → partition_at places c s ≡ option_map (λ row. row.partition) (row_at (rows_of parts places entries) c s)
+    by_slot : (o : Option UsedRow) → seen_at parts c s ≡ o → partition_at places c s ≡ option_map (λ row. row.partition) (row_at (rows_of parts places entries) c s)
     by_slot None is =
         let free : is_used places c s ≡ false = by_use (is_used places c s) refl in
         none_is (partition_at places c s) free ∙ sym (ap (option_map (λ row. row.partition)) (row_at-none parts places entries None tied rise c s is))
@@ -265,7 +265,7 @@ module _ (parts : List Part) (places : PlaceMap) (entries : List Entry)
         let never : false ≡ true = sym (ap is_some gone) ∙ tied.held i e is refl in
         absurd cc
 
-  pub new-slot : (i : ℤ) → row_of i (rows_of parts places entries) ≡ None → (c s : ℕ) (used : UsedSlot) → seen_at parts c s ≡ Some used → int_eq i used.rowid ≡ false
+  pub new-slot : (i : ℤ) → row_of i (rows_of parts places entries) ≡ None → (c s : ℕ) (used : UsedRow) → seen_at parts c s ≡ Some used → int_eq i used.rowid ≡ false
   new-slot i none c s used seen = by_test (int_eq i used.rowid) refl where
     by_test : (t : Bool) → int_eq i used.rowid ≡ t → int_eq i used.rowid ≡ false
     by_test false h = h

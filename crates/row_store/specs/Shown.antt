@@ -1,7 +1,7 @@
 -- What a store shows of its rows.
 use Rattle.std.specs.Prelude.{ℤ}
 use Rattle.std.specs.Option.{option_copied}
-use Rattle.chunk_slots.specs.Slots.{UsedSlot, slot_at, vectors_in}
+use Rattle.row_chunks.specs.RowSlots.{UsedRow, slot_at, vectors_in, cells_in}
 use Rattle.row_store.specs.StoredRows.{StoredRow}
 use Rattle.row_store.specs.declared.readers.RowRef.{RowRef}
 
@@ -14,8 +14,9 @@ shown rowid row = record {
   id = option_copied row.id;
   partition = row.partition.now;
   vectors = vectors_in (slot_at row.slots.now row.slot);
+  cells = cells_in (slot_at row.slots.now row.slot);
 }
 
 -- what a slot holds of its row
-abbrev pub held_of : StoredRow → UsedSlot
-held_of row = record { rowid = row.rowid; vectors = row.vectors }
+abbrev pub held_of : StoredRow → UsedRow
+held_of row = record { rowid = row.rowid; vectors = row.vectors; cells = row.cells }

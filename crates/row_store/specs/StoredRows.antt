@@ -1,11 +1,13 @@
 -- Rows with their places, by rising rowids.
-use Rattle.std.specs.Prelude.{◌≡◌, ℕ, ℤ, int_lt, Bool, true, false, ◌&&◌, ◌==◌, List, find, bytes_eq, Option, Some, None}
+use Rattle.std.specs.Prelude.{◌≡◌, ℕ, ℤ, int_lt, Bool, true, false, ◌&&◌, ◌==◌, if◌then◌else◌, List, find, map, bytes_eq, Option, Some, None, slice_set}
 use Rattle.std.specs.Option.{option_map}
+use Rattle.std.specs.Ordering.{int_eq}
 use Rattle.vec_base.specs.declared.value.Value.{Value}
 use Rattle.slot_alloc.specs.Places.{PlaceMap, partition_at, partition_of_chunk}
 use Rattle.row_store.specs.Keyed.{keyed_by, with_keyed, without_key}
 
--- a row: its rowid, its place, its text id if it has one, its partition values, and a vector for each vector column
+-- a row: its rowid, its place, its text id if it has one, its partition values, a vector for each vector column, and the values of metadata and
+-- auxiliary columns
 pub record StoredRow : Type 0 where
   pub rowid : ℤ
   pub chunk : ℕ
@@ -13,6 +15,7 @@ pub record StoredRow : Type 0 where
   pub id : Option (List ℕ)
   pub partition : List Value
   pub vectors : List (List ℕ)
+  pub cells : List Value
 
 abbrev pub rowid_of : StoredRow → ℤ
 rowid_of row = row.rowid
@@ -57,6 +60,20 @@ with_row row rows = with_keyed rowid_of row rows
 -- the rows of all other rowids
 abbrev pub without : ℤ → List StoredRow → List StoredRow
 without rowid rows = without_key rowid_of rowid rows
+
+-- ---- one row changed
+
+-- the row of the rowid is changed, and the others are as they were
+abbrev pub with_changed : ℤ → (StoredRow → StoredRow) → List StoredRow → List StoredRow
+with_changed rowid change rows = map (λ row. if int_eq row.rowid rowid then change row else row) rows
+
+-- the row with another vector in a vector column
+abbrev pub with_vector : ℕ → List ℕ → StoredRow → StoredRow
+with_vector column vector row = record row { vectors = slice_set row.vectors column vector }
+
+-- the row with another value in a cell
+abbrev pub with_cell : ℕ → Value → StoredRow → StoredRow
+with_cell index value row = record row { cells = slice_set row.cells index value }
 
 -- ---- the places of rows
 

@@ -8,6 +8,7 @@ use Rattle.vec_base.specs.declared.value.Value.{Value}
 use Rattle.slot_alloc.specs.Places.{PlaceMap, is_used}
 use Rattle.slot_alloc.specs.SlotRule.{IsPlaceFor, chunk_of, slot_of}
 use Rattle.slot_alloc.specs.declared.place.Place.{Place}
+use Rattle.row_model.specs.declared.schema.Kind.{Kind}
 use Rattle.row_store.specs.StoredRows.{StoredRow, row_of, row_at, with_row, PlacesAre}
 
 -- the touched rowids, and the touched places
@@ -21,10 +22,12 @@ is_touched_row touches rowid = has_rowid rowid touches.rows
 abbrev pub is_touched_place : Touches → ℕ → ℕ → Bool
 is_touched_place touches chunk slot = is_used touches.places chunk slot
 
--- the sizes of chunks, the bytes of a vector of each column, the rows, and what was touched since the store was shared
+-- the sizes of chunks, the bytes of a vector of each vector column, the kinds of metadata and auxiliary columns, the rows, and what was touched
+-- since the store was shared
 pub record StoreState : Type 0 where
   pub size : ℕ
   pub widths : List ℕ
+  pub kinds : List Kind
   pub rows : List StoredRow
   pub touches : Touches
 
@@ -40,17 +43,18 @@ KeepsOrigin old new = (base : List StoredRow) → Follows base old → Follows b
 -- ---- what puts make of a store
 
 -- The row stands at the place that a row with its partition values takes beside the others.
-pub record IsPut (old new : StoreState) (rowid : ℤ) (id : Option (List ℕ)) (partition : List Value) (vectors : List (List ℕ)) : Type 0 where
+pub record IsPut (old new : StoreState) (rowid : ℤ) (id : Option (List ℕ)) (partition : List Value) (vectors : List (List ℕ)) (cells : List Value) : Type 0 where
   pub place : Place
   pub places : PlaceMap
   pub are : PlacesAre old.size old.rows places
   pub taken : IsPlaceFor places partition place
-  pub rows : new.rows ≡ with_row (record { rowid = rowid; chunk = chunk_of place; slot = slot_of place; id = id; partition = partition; vectors = vectors }) old.rows
+  pub rows : new.rows ≡ with_row (record { rowid = rowid; chunk = chunk_of place; slot = slot_of place; id = id; partition = partition; vectors = vectors; cells = cells }) old.rows
 
 -- what no change changes
 pub record HasSameShape (old new : StoreState) : Type 0 where
   pub size : new.size ≡ old.size
   pub widths : new.widths ≡ old.widths
+  pub kinds : new.kinds ≡ old.kinds
 
 -- a number of slots and widths of vectors that chunks can have
 pub record IsChunkShape (size : ℕ) (widths : List ℕ) : Type 0 where

@@ -1,6 +1,7 @@
 //! The rows of a table in chunks: where each lies, and what was touched since the rows were shared.
 #![tactic(auto)]
 
+mod change;
 mod claims;
 mod part;
 mod parts;
@@ -9,6 +10,7 @@ mod put;
 mod readers;
 mod remove;
 mod rows;
+mod shape;
 mod store;
 mod touched;
 

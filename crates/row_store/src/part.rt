@@ -1,7 +1,8 @@
 //! One chunk of rows with its number, and what changes of rows make of it.
 ghost use Rattle.std.specs.Prelude.{◌≡◌, true, None, is_some};
 
-use chunk_slots::Chunk;
+use row_chunks::RowChunk;
+use row_model::Column;
 use shared_leaves::{Copied, Edit};
 use std::alloc::Global;
 use vec_base::{Memory, Value};
@@ -10,7 +11,7 @@ use vec_base::{Memory, Value};
 #[derive(Drop)]
 pub struct Part {
     pub number: u32,
-    pub slots: Chunk,
+    pub slots: RowChunk,
 }
 
 impl Copied for Part {
@@ -22,24 +23,25 @@ impl Copied for Part {
     }
 }
 
-/// A row takes a free slot.
+/// A row takes a free slot. Each value is that of the column at its place.
 #[derive(Drop)]
 pub(crate) struct PlaceRow<'a> {
     pub(crate) slot: u16,
     pub(crate) rowid: i64,
+    pub(crate) columns: &'a [Column],
     pub(crate) values: &'a [Value],
 }
 
 impl Edit<Part> for PlaceRow<'_> {
-    ghost use Rattle.chunk_slots.specs.Slots.{used_by, vectors_of};
-    ghost use Rattle.row_store.specs.inner.Parts.{CanTake, with_content};
+    ghost use Rattle.row_store.specs.inner.Parts.{CanTake, taken_by, with_content};
 
-    ghost takes = { λ change part. CanTake change.slot (vectors_of change.values.now) part };
+    ghost takes = { λ change part. CanTake change.slot change.columns.now change.values.now part };
 
-    ghost edited = { λ change part. with_content change.slot (used_by change.rowid (vectors_of change.values.now)) part };
+    ghost edited = { λ change part. with_content change.slot (taken_by change.rowid change.columns.now change.values.now) part };
 
-    fn edit(&self, _alloc: Global, part: &mut Part) -> Result<(), Memory> {
-        part.slots.place_row(self.slot, self.rowid, self.values)
+    fn edit(&self, alloc: Global, part: &mut Part) -> Result<(), Memory> {
+        part.slots
+            .place_row(alloc, self.slot, self.rowid, self.columns, self.values)
     }
 }
 
@@ -50,7 +52,7 @@ pub(crate) struct DropRow {
 }
 
 impl Edit<Part> for DropRow {
-    ghost use Rattle.chunk_slots.specs.Slots.{slot_at};
+    ghost use Rattle.row_chunks.specs.RowSlots.{slot_at};
     ghost use Rattle.row_store.specs.inner.Parts.{with_content};
 
     ghost takes = { λ change part. is_some (slot_at part.slots change.slot) ≡ true };
@@ -60,5 +62,36 @@ impl Edit<Part> for DropRow {
     fn edit(&self, _alloc: Global, part: &mut Part) -> Result<(), Memory> {
         part.slots.free(self.slot);
         Ok(())
+    }
+}
+
+/// What changes of a row in its slot: the vector of a vector column, or the value of a cell.
+#[derive(Drop)]
+pub enum RowChange<'a> {
+    Vector(u8, &'a [u8]),
+    Cell(u8, &'a Value),
+}
+
+/// A row changes in its slot.
+#[derive(Drop)]
+pub(crate) struct ChangeRow<'a> {
+    pub(crate) slot: u16,
+    pub(crate) change: &'a RowChange<'a>,
+}
+
+impl Edit<Part> for ChangeRow<'_> {
+    ghost use Rattle.row_chunks.specs.RowSlots.{slot_at};
+    ghost use Rattle.row_store.specs.inner.Parts.{with_content};
+    ghost use Rattle.row_store.specs.inner.Changes.{CanChange, slot_changed};
+
+    ghost takes = { λ change part. CanChange change.slot change.change.now part };
+
+    ghost edited = { λ change part. with_content change.slot (slot_changed change.change.now (slot_at part.slots change.slot)) part };
+
+    fn edit(&self, alloc: Global, part: &mut Part) -> Result<(), Memory> {
+        match self.change {
+            RowChange::Vector(column, vector) => part.slots.set_vector(self.slot, *column, vector),
+            RowChange::Cell(index, value) => part.slots.set_cell(alloc, self.slot, *index, value),
+        }
     }
 }

@@ -1,15 +1,18 @@
 //! Chunks by their numbers: finding one, and changes of one slot.
-ghost use Rattle.std.specs.Prelude.{◌≡◌, ℕ, ◌<◌, ◌≤◌, true, length, map, None, Some, MatchOption, IfOk, OnOk, OnErr, is_some, slice_index_or};
-ghost use Rattle.std.specs.List.{count_by};
+ghost use Rattle.std.specs.Prelude.{◌≡◌, ℕ, ◌<◌, ◌≤◌, true, length, None, Some, MatchOption, IfOk, OnOk, OnErr, is_some, slice_index_or};
+ghost use Rattle.std.specs.List.{count_by, list_all};
 ghost use Rattle.std.specs.Option.{option_copied};
-ghost use Rattle.chunk_slots.specs.Slots.{all_free, slot_at, used_by, vectors_of};
+ghost use Rattle.row_chunks.specs.Cells.{is_cell};
+ghost use Rattle.row_chunks.specs.RowSlots.{all_free, slot_at};
 ghost use Rattle.shared_leaves.specs.Edits.{HoldsAt};
 ghost use Rattle.row_store.specs.declared.part.Part.{Part as PartOf};
-ghost use Rattle.row_store.specs.inner.Parts.{part_of, slots_of, seen_at, numbers_rise, number_at, with_content, CanTake, ArePartsOf, IsChangedAt, KeepShapes};
+ghost use Rattle.row_store.specs.inner.Parts.{part_of, slots_of, seen_at, numbers_rise, number_at, taken_by, with_content, CanTake, ArePartsOf, IsChangedAt, KeepShapes, RowFits};
+ghost use Rattle.row_store.specs.inner.Changes.{Fits, slot_changed};
 ghost use Rattle.row_store.specs.Touches.{IsChunkShape};
 
-use crate::part::{DropRow, Part, PlaceRow};
-use chunk_slots::Chunk;
+use crate::part::{ChangeRow, DropRow, Part, PlaceRow, RowChange};
+use crate::shape::Shape;
+use row_chunks::RowChunk;
 use shared_leaves::{Leaves, Shared, Within};
 use std::alloc::Global;
 use vec_base::Memory;
@@ -52,7 +55,7 @@ fn find(parts: &Leaves<Shared<Part>>, number: u32) -> Option<usize>
 }
 
 /// The slots of a chunk, if the chunk is there.
-pub(crate) fn slots(parts: &Leaves<Shared<Part>>, number: u32) -> Option<&Chunk>
+pub(crate) fn slots(parts: &Leaves<Shared<Part>>, number: u32) -> Option<&RowChunk>
     requires { numbers_rise parts.now ≡ true }
     ensures { option_copied result ≡ slots_of parts.now number }
 {
@@ -78,9 +81,9 @@ pub(crate) fn next_number(parts: &Leaves<Shared<Part>>, after: u32) -> Option<u3
 fn fill_slot(parts: &mut Leaves<Shared<Part>>, at: usize, row: &PlaceRow<'_>) -> Result<(), Memory>
     requires within { at < length parts.old }
     requires rise { numbers_rise parts.old ≡ true }
-    requires fits { HoldsAt (CanTake row.now.slot (vectors_of row.now.values.now)) at parts.old }
+    requires fits { HoldsAt (CanTake row.now.slot row.now.columns.now row.now.values.now) at parts.old }
     ensures kept { OnErr result (parts.new ≡ parts.old) }
-    ensures changed { OnOk result (IsChangedAt (number_at parts.old at) row.now.slot (used_by row.now.rowid (vectors_of row.now.values.now)) parts.old parts.new) }
+    ensures changed { OnOk result (IsChangedAt (number_at parts.old at) row.now.slot (taken_by row.now.rowid row.now.columns.now row.now.values.now) parts.old parts.new) }
     ensures shapes { OnOk result (KeepShapes parts.old parts.new) }
 {
     parts.edit(at, &Within(row))?;
@@ -88,20 +91,20 @@ fn fill_slot(parts: &mut Leaves<Shared<Part>>, at: usize, row: &PlaceRow<'_>) ->
 }
 
 /// A chunk with a row in one slot.
-fn new_part(
-    alloc: Global,
-    size: u16,
-    widths: &[u16],
-    number: u32,
-    row: &PlaceRow<'_>,
-) -> Result<Part, Memory>
-    requires shape { IsChunkShape size widths.now }
-    requires slot { row.now.slot < size }
-    requires fits { map length (vectors_of row.now.values.now) ≡ widths.now }
-    ensures { IfOk result (λ part. part ≡ with_content row.now.slot (used_by row.now.rowid (vectors_of row.now.values.now)) (record { number = number; slots = all_free size widths.now })) }
+fn new_part(alloc: Global, shape: &Shape, number: u32, row: &PlaceRow<'_>) -> Result<Part, Memory>
+    requires shape { IsChunkShape shape.now.size shape.now.widths }
+    requires cells { list_all is_cell shape.now.kinds ≡ true }
+    requires slot { row.now.slot < shape.now.size }
+    requires fits { RowFits shape.now.widths shape.now.kinds row.now.columns.now row.now.values.now }
+    ensures { IfOk result (λ part. part ≡ with_content row.now.slot (taken_by row.now.rowid row.now.columns.now row.now.values.now) (record { number = number; slots = all_free shape.now.size shape.now.widths shape.now.kinds })) }
 {
-    let mut slots = Chunk::with_shape(alloc, size, widths)?;
-    slots.place_row(row.slot, row.rowid, row.values)?;
+    let mut slots = RowChunk::with_shape(
+        alloc,
+        shape.size,
+        shape.widths.as_slice(),
+        shape.kinds.as_slice(),
+    )?;
+    slots.place_row(alloc, row.slot, row.rowid, row.columns, row.values)?;
     Ok(Part { number, slots })
 }
 
@@ -109,22 +112,22 @@ fn new_part(
 fn add_part(
     alloc: Global,
     parts: &mut Leaves<Shared<Part>>,
-    size: u16,
-    widths: &[u16],
+    shape: &Shape,
     number: u32,
     row: &PlaceRow<'_>,
 ) -> Result<(), Memory>
-    requires shape { IsChunkShape size widths.now }
-    requires slot { row.now.slot < size }
-    requires fits { map length (vectors_of row.now.values.now) ≡ widths.now }
-    requires parts { ArePartsOf size widths.now parts.old }
+    requires shape { IsChunkShape shape.now.size shape.now.widths }
+    requires cells { list_all is_cell shape.now.kinds ≡ true }
+    requires slot { row.now.slot < shape.now.size }
+    requires fits { RowFits shape.now.widths shape.now.kinds row.now.columns.now row.now.values.now }
+    requires parts { ArePartsOf shape.now parts.old }
     requires new { part_of parts.old number ≡ None }
     ensures kept { OnErr result (parts.new ≡ parts.old) }
-    ensures changed { OnOk result (IsChangedAt number row.now.slot (used_by row.now.rowid (vectors_of row.now.values.now)) parts.old parts.new) }
-    ensures shapes { OnOk result (ArePartsOf size widths.now parts.new) }
+    ensures changed { OnOk result (IsChangedAt number row.now.slot (taken_by row.now.rowid row.now.columns.now row.now.values.now) parts.old parts.new) }
+    ensures shapes { OnOk result (ArePartsOf shape.now parts.new) }
 {
     let at = first_from(parts, u64::from(number));
-    let part = new_part(alloc, size, widths, number, row)?;
+    let part = new_part(alloc, shape, number, row)?;
     parts.insert(at, Shared::new(alloc, part)?)?;
     Ok(())
 }
@@ -133,23 +136,23 @@ fn add_part(
 pub(crate) fn place_row(
     alloc: Global,
     parts: &mut Leaves<Shared<Part>>,
-    size: u16,
-    widths: &[u16],
+    shape: &Shape,
     number: u32,
     row: &PlaceRow<'_>,
 ) -> Result<(), Memory>
-    requires shape { IsChunkShape size widths.now }
-    requires slot { row.now.slot < size }
-    requires fits { map length (vectors_of row.now.values.now) ≡ widths.now }
-    requires parts { ArePartsOf size widths.now parts.old }
+    requires shape { IsChunkShape shape.now.size shape.now.widths }
+    requires cells { list_all is_cell shape.now.kinds ≡ true }
+    requires slot { row.now.slot < shape.now.size }
+    requires fits { RowFits shape.now.widths shape.now.kinds row.now.columns.now row.now.values.now }
+    requires parts { ArePartsOf shape.now parts.old }
     requires free { seen_at parts.old number row.now.slot ≡ None }
     ensures kept { OnErr result (parts.new ≡ parts.old) }
-    ensures changed { OnOk result (IsChangedAt number row.now.slot (used_by row.now.rowid (vectors_of row.now.values.now)) parts.old parts.new) }
-    ensures shapes { OnOk result (ArePartsOf size widths.now parts.new) }
+    ensures changed { OnOk result (IsChangedAt number row.now.slot (taken_by row.now.rowid row.now.columns.now row.now.values.now) parts.old parts.new) }
+    ensures shapes { OnOk result (ArePartsOf shape.now parts.new) }
 {
     match find(parts, number) {
         Some(at) => fill_slot(parts, at, row),
-        None => add_part(alloc, parts, size, widths, number, row),
+        None => add_part(alloc, parts, shape, number, row),
     }
 }
 
@@ -181,6 +184,13 @@ fn remove_part(parts: &mut Leaves<Shared<Part>>, at: usize, slot: u16) -> Result
     Ok(())
 }
 
+/// How many slots are used.
+fn used(slots: &RowChunk) -> u16
+    ensures { result ≡ count_by is_some slots.now.slots }
+{
+    slots.slots().used()
+}
+
 /// A row leaves its slot, and its chunk goes with its last row. After want of memory the parts are as before.
 pub(crate) fn drop_row(
     parts: &mut Leaves<Shared<Part>>,
@@ -196,9 +206,30 @@ pub(crate) fn drop_row(
     let Some(at) = find(parts, number) else {
         unreachable!();
     };
-    if parts.get(at).get().slots.used() > 1 {
+    if used(&parts.get(at).get().slots) > 1 {
         free_slot(parts, at, slot)
     } else {
         remove_part(parts, at, slot)
     }
+}
+
+/// The row in a slot changes. After want of memory the parts are as before.
+pub(crate) fn change_row(
+    parts: &mut Leaves<Shared<Part>>,
+    number: u32,
+    slot: u16,
+    change: &RowChange<'_>,
+) -> Result<(), Memory>
+    requires rise { numbers_rise parts.old ≡ true }
+    requires used { is_some (seen_at parts.old number slot) ≡ true }
+    requires fits { (part : PartOf) → part_of parts.old number ≡ Some part → Fits part.slots.widths part.slots.kinds change.now }
+    ensures kept { OnErr result (parts.new ≡ parts.old) }
+    ensures changed { OnOk result (IsChangedAt number slot (slot_changed change.now (seen_at parts.old number slot)) parts.old parts.new) }
+    ensures shapes { OnOk result (KeepShapes parts.old parts.new) }
+{
+    let Some(at) = find(parts, number) else {
+        unreachable!();
+    };
+    parts.edit(at, &Within(&ChangeRow { slot, change }))?;
+    Ok(())
 }

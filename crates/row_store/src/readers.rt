@@ -2,7 +2,7 @@
 ghost use Rattle.std.specs.Prelude.{◌≡◌, ℕ, ◌<◌, ◌^◌, true, [], length, map, None, Some, IfOk, IfSome, MatchOption, is_some};
 ghost use Rattle.std.specs.List.{AllByRecursion, AllPairs};
 ghost use Rattle.std.specs.Option.{option_copied, option_map};
-ghost use Rattle.chunk_slots.specs.Slots.{slot_at};
+ghost use Rattle.row_chunks.specs.RowSlots.{slot_at};
 ghost use Rattle.row_store.specs.Keyed.{keys_rise};
 ghost use Rattle.row_store.specs.StoredRows.{rowid_of, row_of, row_at, first_in, row_with_id, next_row};
 ghost use Rattle.row_store.specs.Touches.{Follows};
@@ -15,7 +15,7 @@ use crate::place::RowPlace;
 use crate::rows::Rows;
 use crate::store::RowStore;
 use crate::touched::Touched;
-use chunk_slots::Chunk;
+use row_chunks::RowChunk;
 use std::alloc::Global;
 use vec_base::{List, Memory, Value};
 
@@ -26,7 +26,7 @@ pub struct RowRef<'a> {
     pub slot: u16,
     pub id: Option<&'a str>,
     pub partition: &'a List<Value>,
-    pub slots: &'a Chunk,
+    pub slots: &'a RowChunk,
 }
 
 /// Whether the rowid is that of a claim, which has no row.
@@ -101,17 +101,6 @@ fn share_rows(rows: &Rows) -> Result<Rows, Memory>
     })
 }
 
-/// Equal widths.
-fn copied_widths(alloc: Global, widths: &List<u16>) -> Result<List<u16>, Memory>
-    ensures { IfOk result (λ copy. copy ≡ widths.now) }
-{
-    let mut copy = Vec::with_capacity(alloc, widths.len())?;
-    for width in widths.as_slice() {
-        copy.push(*width)?;
-    }
-    Ok(List::from_vec(copy))
-}
-
 impl RowStore {
     /// What holds of the rows of every store. The call does nothing: its clauses are all that it gives.
     pub fn known(&self)
@@ -147,16 +136,18 @@ impl RowStore {
         ensures used { IfSome result (λ row. is_some (slot_at row.slots.now row.slot) ≡ true) }
         ensures size { IfSome result (λ row. length row.slots.now.slots ≡ self.now.size) }
         ensures widths { IfSome result (λ row. row.slots.now.widths ≡ self.now.widths) }
+        ensures kinds { IfSome result (λ row. row.slots.now.kinds ≡ self.now.kinds) }
     {
         row_with(&self.rows, rowid)
     }
 
     /// The slots of a chunk, where it has a row.
-    pub fn slots(&self, chunk: u32) -> Option<&Chunk>
+    pub fn slots(&self, chunk: u32) -> Option<&RowChunk>
         ensures there { is_some result ≡ is_some (first_in self.now.rows chunk) }
         ensures slots { IfSome result (λ slots. (slot : ℕ) → slot_at slots.now slot ≡ option_map held_of (row_at self.now.rows chunk slot)) }
         ensures size { IfSome result (λ slots. length slots.now.slots ≡ self.now.size) }
         ensures widths { IfSome result (λ slots. slots.now.widths ≡ self.now.widths) }
+        ensures kinds { IfSome result (λ slots. slots.now.kinds ≡ self.now.kinds) }
     {
         self.rows.index.known();
         parts::slots(&self.rows.parts, chunk)
@@ -188,17 +179,17 @@ impl RowStore {
         ensures rows { IfOk result (λ other. other.rows ≡ self.now.rows) }
         ensures size { IfOk result (λ other. other.size ≡ self.now.size) }
         ensures widths { IfOk result (λ other. other.widths ≡ self.now.widths) }
+        ensures kinds { IfOk result (λ other. other.kinds ≡ self.now.kinds) }
         ensures no_row_touched { IfOk result (λ other. other.touches.rows ≡ []) }
         ensures no_place_touched { IfOk result (λ other. other.touches.places.chunks ≡ []) }
         ensures follows { IfOk result (λ other. Follows self.now.rows other) }
     {
         self.rows.places.known();
         Ok(RowStore {
-            size: self.size,
-            widths: copied_widths(alloc, &self.widths)?,
+            shape: self.shape.share(alloc)?,
             rows: share_rows(&self.rows)?,
             count: self.count,
-            touched: Touched::new(alloc, self.size)?,
+            touched: Touched::new(alloc, self.shape.size)?,
         })
     }
 }

@@ -1,9 +1,10 @@
 -- How chunks, places and entries give the rows of a store, and what holds of them.
 use Rattle.std.specs.Prelude.{◌≡◌, ℕ, ◌<◌, ℤ, Bool, true, false, ◌&&◌, ◌==◌, cond, List, [], length, Option, Some, None, is_some}
-use Rattle.std.specs.List.{filter_map}
+use Rattle.std.specs.List.{filter_map, list_all}
 use Rattle.std.specs.Ordering.{int_eq}
 use Rattle.vec_base.specs.declared.value.Value.{Value}
-use Rattle.chunk_slots.specs.Slots.{UsedSlot}
+use Rattle.row_chunks.specs.Cells.{is_cell}
+use Rattle.row_chunks.specs.RowSlots.{UsedRow}
 use Rattle.row_index.specs.Entries.{entry_of}
 use Rattle.row_index.specs.declared.entry.Entry.{Entry}
 use Rattle.slot_alloc.specs.Places.{PlaceMap, partition_of_chunk, is_used}
@@ -12,6 +13,7 @@ use Rattle.slot_alloc.specs.declared.place.Place.{Place}
 use Rattle.row_store.specs.StoredRows.{StoredRow}
 use Rattle.row_store.specs.Touches.{Touches, is_touched_row, is_touched_place}
 use Rattle.row_store.specs.declared.rows.Rows.{Rows}
+use Rattle.row_store.specs.declared.shape.Shape.{Shape}
 use Rattle.row_store.specs.declared.part.Part.{Part}
 use Rattle.row_store.specs.declared.place.RowPlace.{RowPlace}
 use Rattle.row_store.specs.inner.Parts.{seen_at, ArePartsOf}
@@ -22,10 +24,10 @@ values_or_none None = []
 values_or_none (Some values) = values
 
 -- the row of an entry, where the slot is used by its rowid
-abbrev pub row_in : Option (List Value) → Entry → Option UsedSlot → Option StoredRow
+abbrev pub row_in : Option (List Value) → Entry → Option UsedRow → Option StoredRow
 row_in partition e None = None
 row_in partition e (Some used) = cond (int_eq used.rowid e.rowid)
-    (Some (record { rowid = e.rowid; chunk = e.chunk; slot = e.slot; id = e.id; partition = values_or_none partition; vectors = used.vectors }))
+    (Some (record { rowid = e.rowid; chunk = e.chunk; slot = e.slot; id = e.id; partition = values_or_none partition; vectors = used.vectors; cells = used.cells }))
     None
 
 abbrev pub row_from : List Part → PlaceMap → Entry → Option StoredRow
@@ -47,25 +49,26 @@ is_claimed_rowid (Some claim) i = int_eq claim.rowid i
 
 -- Slots, places and entries tell of the same rows. Where there is a claim, its place is used and its rowid may have an entry, and it has no row.
 pub record AreTied (parts : List Part) (places : PlaceMap) (entries : List Entry) (claim : Option RowPlace) : Type 0 where
-  pub entered : (c s : ℕ) (used : UsedSlot) → seen_at parts c s ≡ Some used → (e : Entry) × ((entry_of used.rowid entries ≡ Some e) × ((e.chunk ≡ c) × (e.slot ≡ s)))
+  pub entered : (c s : ℕ) (used : UsedRow) → seen_at parts c s ≡ Some used → (e : Entry) × ((entry_of used.rowid entries ≡ Some e) × ((e.chunk ≡ c) × (e.slot ≡ s)))
   pub placed : (c s : ℕ) → is_some (seen_at parts c s) ≡ true → is_used places c s ≡ true
   pub held : (i : ℤ) (e : Entry) → entry_of i entries ≡ Some e → is_claimed_rowid claim i ≡ false → is_some (row_from parts places e) ≡ true
   pub used : (c s : ℕ) → is_used places c s ≡ true → is_claimed claim c s ≡ false → is_some (seen_at parts c s) ≡ true
   pub claimed : (c s : ℕ) → is_claimed claim c s ≡ true → is_used places c s ≡ true
   pub free : (c s : ℕ) → is_claimed claim c s ≡ true → seen_at parts c s ≡ None
-  pub absent : (c s : ℕ) (used : UsedSlot) → seen_at parts c s ≡ Some used → is_claimed_rowid claim used.rowid ≡ false
+  pub absent : (c s : ℕ) (used : UsedRow) → seen_at parts c s ≡ Some used → is_claimed_rowid claim used.rowid ≡ false
 
 -- the rows that are seen
 abbrev pub seen_rows : Rows → List StoredRow
 seen_rows rows = rows_of rows.parts rows.places rows.index
 
--- a store of these sizes and widths, with so many rows, and touched places in chunks of so many slots
-pub record IsKept (size : ℕ) (widths : List ℕ) (count touched : ℕ) (rows : Rows) : Type 0 where
-  pub chunks : IsChunkShape size widths
-  pub shapes : ArePartsOf size widths rows.parts
-  pub sized : rows.places.size ≡ size
+-- a store in chunks of this shape, with so many rows, and touched places in chunks of so many slots
+pub record IsKept (shape : Shape) (count touched : ℕ) (rows : Rows) : Type 0 where
+  pub chunks : IsChunkShape shape.size shape.widths
+  pub cells : list_all is_cell shape.kinds ≡ true
+  pub shapes : ArePartsOf shape rows.parts
+  pub sized : rows.places.size ≡ shape.size
   pub counted : count ≡ length (seen_rows rows)
-  pub touching : touched ≡ size
+  pub touching : touched ≡ shape.size
   pub tied : AreTied rows.parts rows.places rows.index rows.claim
 
 -- ---- a place that is claimed
@@ -92,7 +95,7 @@ pub record IsReady (old : PlaceMap) (new : Rows) (touches : Touches) (partition 
 -- the row of a rowid lies at a place, both are touched, and nothing is left behind
 pub record IsFoundRow (rows : Rows) (touches : Touches) (rowid : ℤ) (at : RowPlace) : Type 0 where
   pub own : at.rowid ≡ rowid
-  pub used : UsedSlot
+  pub used : UsedRow
   pub seen : seen_at rows.parts at.chunk at.slot ≡ Some used
   pub same : used.rowid ≡ rowid
   pub settled : rows.claim ≡ None

@@ -1,11 +1,12 @@
-use Rattle.chunk_slots.specs.Slots.{vectors_of}
 use Rattle.row_store.proofs.PartLaws.{filled_at}
 use Rattle.row_store.proofs.parts.fill_slot.Goals as goal
 
 pub returns-clause-changed : goal.returns-clause-changed
 returns-clause-changed c =
-    (filled_at c.args.parts.now c.edit.new.self c.args.at c.args.row.now.slot c.args.row.now.rowid (vectors_of c.args.row.now.values.now) c.requires.within c.requires.rise c.requires.fits (c.in_ok-edit.ensures {u = tt})).0
+    let row = c.args.row.now in
+    (filled_at c.args.parts.now c.edit.new.self c.args.at row.slot row.rowid row.columns.now row.values.now c.requires.within c.requires.rise c.requires.fits (c.in_ok-edit.ensures {u = tt})).0
 
 pub returns-clause-shapes : goal.returns-clause-shapes
 returns-clause-shapes c =
-    (filled_at c.args.parts.now c.edit.new.self c.args.at c.args.row.now.slot c.args.row.now.rowid (vectors_of c.args.row.now.values.now) c.requires.within c.requires.rise c.requires.fits (c.in_ok-edit.ensures {u = tt})).1
+    let row = c.args.row.now in
+    (filled_at c.args.parts.now c.edit.new.self c.args.at row.slot row.rowid row.columns.now row.values.now c.requires.within c.requires.rise c.requires.fits (c.in_ok-edit.ensures {u = tt})).1

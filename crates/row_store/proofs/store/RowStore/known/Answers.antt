@@ -6,7 +6,7 @@ facts : (c : goal.After-known-2) → AreRows c.args.self.now.size c.args.self.no
 facts c =
     let store = c.self.inside in
     let rows = store.rows in
-    subst (λ s. AreRows s.size s.widths s.rows) c.self.view_is (rows-known rows.parts rows.places rows.index rows.claim store.size store.widths c.self.invariant.tied c.known.ensures.rising c.self.invariant.shapes c.known-2.ensures c.self.invariant.sized)
+    subst (λ s. AreRows s.size s.widths s.rows) c.self.view_is (rows-known rows.parts rows.places rows.index rows.claim store.shape c.self.invariant.tied c.known.ensures.rising c.self.invariant.shapes c.known-2.ensures c.self.invariant.sized)
 
 pub returns-clause-rising : goal.returns-clause-rising
 returns-clause-rising c = (facts c).rising

@@ -10,4 +10,4 @@ returns c =
     let rows = store.rows in
     subst (λ rs. MatchOption c.next_number.result ((d : ℕ) → c.args.after < d → first_in rs d ≡ None) (λ n. (c.args.after < n) × (is_some (first_in rs n) ≡ true) × ((d : ℕ) → c.args.after < d → d < n → first_in rs d ≡ None)))
     (ap (λ s. s.rows) c.self.view_is)
-    (next-first_in rows.parts rows.places rows.index rows.claim store.size store.widths c.self.invariant.tied c.known.ensures.rising c.self.invariant.shapes c.args.after c.next_number.result c.next_number.ensures)
+    (next-first_in rows.parts rows.places rows.index rows.claim store.shape c.self.invariant.tied c.known.ensures.rising c.self.invariant.shapes c.args.after c.next_number.result c.next_number.ensures)

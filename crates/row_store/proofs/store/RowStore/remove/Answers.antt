@@ -13,34 +13,34 @@ returns-in_default-clause-rows c =
 
 pub overflow_sub-self : goal.overflow_sub-self
 overflow_sub-self c =
-    let n = one-less c.self.inside.size c.self.inside.count c.self.inside.widths c.self.inside.touched c.find.new.touched c.self.inside.rows c.find.new.rows c.drop_row.new.parts c.args.rowid.now c.in-Some.place
+    let n = one-less c.self.inside.shape c.self.inside.count c.self.inside.touched c.find.new.touched c.self.inside.rows c.find.new.rows c.drop_row.new.parts c.args.rowid.now c.in-Some.place
     c.self.invariant c.find.ensures.parts c.find.ensures.tied c.find.ensures.rows c.find.ensures.size c.find.ensures.wider (rw c.in-Some.is at c.in_ok-place.ensures.found) c.known.ensures.rising c.in_ok-drop_row.ensures.changed c.in_ok-drop_row.ensures.shapes in
     omega (arith, n)
 
 pub try_settle-requires : goal.try_settle-requires
 try_settle-requires c = record {
-  tied = left-tied c.self.inside.size c.self.inside.count c.self.inside.widths c.self.inside.touched c.find.new.touched c.self.inside.rows c.find.new.rows c.drop_row.new.parts c.args.rowid.now c.in-Some.place
+  tied = left-tied c.self.inside.shape c.self.inside.count c.self.inside.touched c.find.new.touched c.self.inside.rows c.find.new.rows c.drop_row.new.parts c.args.rowid.now c.in-Some.place
       c.self.invariant c.find.ensures.parts c.find.ensures.tied c.find.ensures.rows c.find.ensures.size c.find.ensures.wider (rw c.in-Some.is at c.in_ok-place.ensures.found) c.known.ensures.rising c.in_ok-drop_row.ensures.changed c.in_ok-drop_row.ensures.shapes;
 }
 
 pub invariant_of-self-2 : goal.invariant_of-self-2
 invariant_of-self-2 c =
-    left-kept c.self.inside.size c.self.inside.count c.self.inside.widths c.self.inside.touched c.find.new.touched c.self.inside.rows c.find.new.rows c.drop_row.new.parts c.args.rowid.now c.in-Some.place
+    left-kept c.self.inside.shape c.self.inside.count c.self.inside.touched c.find.new.touched c.self.inside.rows c.find.new.rows c.drop_row.new.parts c.args.rowid.now c.in-Some.place
     c.self.invariant c.find.ensures.parts c.find.ensures.tied c.find.ensures.rows c.find.ensures.size c.find.ensures.wider (rw c.in-Some.is at c.in_ok-place.ensures.found) c.known.ensures.rising c.in_ok-drop_row.ensures.changed c.in_ok-drop_row.ensures.shapes
     c.try_settle.new.rows c.try_settle.ensures.parts c.try_settle.ensures.tied c.try_settle.ensures.rows c.try_settle.ensures.size
 
 pub returns-clause-rows : goal.returns-clause-rows
 returns-clause-rows c =
-    rw (sym c.self.view_is) (c.try_settle.ensures.rows ∙ left-rows c.self.inside.size c.self.inside.count c.self.inside.widths c.self.inside.touched c.find.new.touched c.self.inside.rows c.find.new.rows c.drop_row.new.parts c.args.rowid.now c.in-Some.place
+    rw (sym c.self.view_is) (c.try_settle.ensures.rows ∙ left-rows c.self.inside.shape c.self.inside.count c.self.inside.touched c.find.new.touched c.self.inside.rows c.find.new.rows c.drop_row.new.parts c.args.rowid.now c.in-Some.place
     c.self.invariant c.find.ensures.parts c.find.ensures.tied c.find.ensures.rows c.find.ensures.size c.find.ensures.wider (rw c.in-Some.is at c.in_ok-place.ensures.found) c.known.ensures.rising c.in_ok-drop_row.ensures.changed c.in_ok-drop_row.ensures.shapes)
 
 pub returns-clause-answer : goal.returns-clause-answer
 returns-clause-answer c =
-    rw (sym c.self.view_is) (sym (ap (is_some {T = StoredRow}) (was-there c.self.inside.size c.self.inside.count c.self.inside.widths c.self.inside.touched c.find.new.touched c.self.inside.rows c.find.new.rows c.drop_row.new.parts c.args.rowid.now c.in-Some.place
+    rw (sym c.self.view_is) (sym (ap (is_some {T = StoredRow}) (was-there c.self.inside.shape c.self.inside.count c.self.inside.touched c.find.new.touched c.self.inside.rows c.find.new.rows c.drop_row.new.parts c.args.rowid.now c.in-Some.place
     c.self.invariant c.find.ensures.parts c.find.ensures.tied c.find.ensures.rows c.find.ensures.size c.find.ensures.wider (rw c.in-Some.is at c.in_ok-place.ensures.found) c.known.ensures.rising c.in_ok-drop_row.ensures.changed c.in_ok-drop_row.ensures.shapes).1))
 
 pub returns-clause-origin : goal.returns-clause-origin
 returns-clause-origin c =
-    rw (sym c.self.view_is) (left-origin c.self.inside.size c.self.inside.count c.self.inside.widths c.self.inside.touched c.find.new.touched c.self.inside.rows c.find.new.rows c.drop_row.new.parts c.args.rowid.now c.in-Some.place
+    rw (sym c.self.view_is) (left-origin c.self.inside.shape c.self.inside.count c.self.inside.touched c.find.new.touched c.self.inside.rows c.find.new.rows c.drop_row.new.parts c.args.rowid.now c.in-Some.place
     c.self.invariant c.find.ensures.parts c.find.ensures.tied c.find.ensures.rows c.find.ensures.size c.find.ensures.wider (rw c.in-Some.is at c.in_ok-place.ensures.found) c.known.ensures.rising c.in_ok-drop_row.ensures.changed c.in_ok-drop_row.ensures.shapes
     _ c.try_settle.ensures.rows)

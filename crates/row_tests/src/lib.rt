@@ -1,0 +1,5 @@
+//! Tests of rows in chunks.
+#![tactic(auto)]
+
+#[cfg(test)]
+mod rows;
