@@ -67,7 +67,7 @@ none-found rowid (r ∷ rs) none =
     elim (int_eq r.rowid rowid) as (λ b. cond b (Some r) (find (λ row. int_eq row.rowid rowid) rs) ≡ None → (b || has_rowid rowid rs) ≡ false)
     [ true ↦ λ e. absurd cc | false ↦ λ e. none-found rowid rs e ] none
 
-none_above : (low rowid : ℤ) (rows : List Row) → int_eq low rowid ≡ true → list_all (λ row. int_lt low row.rowid) rows ≡ true → has_rowid rowid rows ≡ false
+pub none_above : (low rowid : ℤ) (rows : List Row) → int_eq low rowid ≡ true → list_all (λ row. int_lt low row.rowid) rows ≡ true → has_rowid rowid rows ≡ false
 none_above low rowid [] same above = refl
 none_above low rowid (r ∷ rs) same above =
     let parts = and_parts (int_lt low r.rowid) (list_all (λ (row : Row). int_lt low row.rowid) rs) above in

@@ -9,7 +9,7 @@ use Rattle.vec_base.specs.declared.value.Value.{Value}
 use Rattle.vec_base.specs.declared.value.Value.TheVariants.{Null, Int, Text, Blob, Int8, Bits}
 use Rattle.row_model.specs.Change.{rows_vector_bytes}
 use Rattle.row_model.specs.ColumnNames.{is_text_key}
-use Rattle.row_model.specs.Schemas.{is_key, is_partition, is_metadata, is_auxiliary, count_of, has_some, IsValidSchema}
+use Rattle.row_model.specs.Schemas.{is_key, is_partition, count_of, IsValidSchema}
 use Rattle.row_model.specs.Valid.{is_fitting, is_valid_value, are_valid_values, is_valid_row}
 use Rattle.row_model.specs.Values.{is_null, is_text, side_bytes, vector_bytes, row_vector_bytes}
 use Rattle.row_model.specs.declared.row.Row.{Row}
@@ -19,6 +19,7 @@ use Rattle.row_model.specs.declared.schema.Kind.TheVariants.{IntKey, TextKey, In
 use Rattle.row_model.specs.declared.schema.Schema.{Schema}
 use Rattle.row_model.proofs.BoolLaws.{or_first, or_second}
 use Rattle.shadow_records.specs.PlacedTables.{partition_of}
+use Rattle.row_chunks.specs.Cells.{cells_of, is_cell}
 use Rattle.chunk_slots.specs.Slots.{vector_of, vectors_of}
 use Rattle.table_version.proofs.ByteLaws.{values-small, IsSmall}
 use Rattle.table_version.proofs.KeptLaws.{id-all, id_in-none, partition-all}
@@ -57,20 +58,18 @@ lengths_by_widths (vector ∷ vectors) =
     omega (arith, one, wide, rest)
 
 -- each row has the bytes that its columns say
-pub vector_bytes-fixed : (columns : List Column) (rowid : ℤ) (values : List Value) → has_some is_metadata columns ≡ false → has_some is_auxiliary columns ≡ false →
-    are_valid_values columns rowid values ≡ true → sum_by vector_bytes values ≡ total_width (widths_of columns)
-vector_bytes-fixed columns rowid values no_metadata no_auxiliary valid =
-    vector_bytes-kept values ∙ lengths_by_widths (vectors_of values) ∙ ap total_width (widths-fit columns rowid values no_metadata no_auxiliary valid)
+pub vector_bytes-fixed : (columns : List Column) (rowid : ℤ) (values : List Value) → are_valid_values columns rowid values ≡ true → sum_by vector_bytes values ≡ total_width (widths_of columns)
+vector_bytes-fixed columns rowid values valid =
+    vector_bytes-kept values ∙ lengths_by_widths (vectors_of values) ∙ ap total_width (widths-fit columns rowid values valid)
 
 -- so the bytes of all vectors are counted by the rows
-pub rows_vector_bytes-fixed : (columns : List Column) (rows : List Row) → has_some is_metadata columns ≡ false → has_some is_auxiliary columns ≡ false →
-    list_all (is_valid_row columns) rows ≡ true → rows_vector_bytes rows ≡ length rows * total_width (widths_of columns)
-rows_vector_bytes-fixed columns [] no_metadata no_auxiliary all = omega arith
-rows_vector_bytes-fixed columns (r ∷ rs) no_metadata no_auxiliary all =
+pub rows_vector_bytes-fixed : (columns : List Column) (rows : List Row) → list_all (is_valid_row columns) rows ≡ true → rows_vector_bytes rows ≡ length rows * total_width (widths_of columns)
+rows_vector_bytes-fixed columns [] all = omega arith
+rows_vector_bytes-fixed columns (r ∷ rs) all =
     let parts = and_parts (is_valid_row columns r) (list_all (is_valid_row columns) rs) all in
-    let here : row_vector_bytes r ≡ total_width (widths_of columns) = vector_bytes-fixed columns r.rowid r.values no_metadata no_auxiliary parts.0 in
+    let here : row_vector_bytes r ≡ total_width (widths_of columns) = vector_bytes-fixed columns r.rowid r.values parts.0 in
     let step = sum_by-cons row_vector_bytes r rs in
-    let rest = rows_vector_bytes-fixed columns rs no_metadata no_auxiliary parts.1 in
+    let rest = rows_vector_bytes-fixed columns rs parts.1 in
     omega (arith, here, step, rest)
 
 -- ---- texts
@@ -79,26 +78,37 @@ abbrev pub id_bytes : Option (List ℕ) → ℕ
 id_bytes None = 0
 id_bytes (Some text) = length text
 
--- only text keys and partition columns have texts
-side_one : (kind : Kind) (rowid : ℤ) (value : Value) → is_metadata kind ≡ false → is_auxiliary kind ≡ false → is_valid_value kind rowid value ≡ true → is_text_key kind ≡ false →
-    side_bytes value ≡ cond (is_partition kind) (side_bytes value) 0
-side_one TextKey rowid value no_metadata no_auxiliary valid no_text = absurd cc
-side_one IntKey rowid value no_metadata no_auxiliary valid no_text = ap side_bytes (number_shape rowid value valid)
-side_one (Int8Vector width metric) rowid value no_metadata no_auxiliary valid no_text =
-    ap side_bytes (int8_shape value (typed (Int8Vector width metric) value (not_null (is_null value) (is_fitting (Int8Vector width metric) value) valid))).1
-side_one (BitVector width) rowid value no_metadata no_auxiliary valid no_text =
-    ap side_bytes (bits_shape value (typed (BitVector width) value (not_null (is_null value) (is_fitting (BitVector width) value) valid))).1
-side_one IntPartition rowid value no_metadata no_auxiliary valid no_text = refl
-side_one TextPartition rowid value no_metadata no_auxiliary valid no_text = refl
-side_one IntMeta rowid value no_metadata no_auxiliary valid no_text = absurd cc
-side_one TextMeta rowid value no_metadata no_auxiliary valid no_text = absurd cc
-side_one BoolMeta rowid value no_metadata no_auxiliary valid no_text = absurd cc
-side_one IntAux rowid value no_metadata no_auxiliary valid no_text = absurd cc
-side_one TextAux rowid value no_metadata no_auxiliary valid no_text = absurd cc
-side_one BlobAux rowid value no_metadata no_auxiliary valid no_text = absurd cc
+-- a text or a blob is that of a text key, of a partition column or of a cell
+abbrev counted : Kind → Value → ℕ
+counted kind value = cond (is_partition kind) (side_bytes value) 0 + cond (is_cell kind) (side_bytes value) 0
+
+no_sides : (n : ℕ) → n ≡ 0 → n ≡ 0 + 0
+no_sides n e = omega (arith, e)
+
+first_sides : (n : ℕ) → n ≡ n + 0
+first_sides n = omega arith
+
+second_sides : (n : ℕ) → n ≡ 0 + n
+second_sides n = omega arith
+
+side_one : (kind : Kind) (rowid : ℤ) (value : Value) → is_valid_value kind rowid value ≡ true → is_text_key kind ≡ false → side_bytes value ≡ counted kind value
+side_one TextKey rowid value valid no_text = absurd cc
+side_one IntKey rowid value valid no_text = no_sides (side_bytes value) (ap side_bytes (number_shape rowid value valid))
+side_one (Int8Vector width metric) rowid value valid no_text =
+    no_sides (side_bytes value) (ap side_bytes (int8_shape value (typed (Int8Vector width metric) value (not_null (is_null value) (is_fitting (Int8Vector width metric) value) valid))).1)
+side_one (BitVector width) rowid value valid no_text =
+    no_sides (side_bytes value) (ap side_bytes (bits_shape value (typed (BitVector width) value (not_null (is_null value) (is_fitting (BitVector width) value) valid))).1)
+side_one IntPartition rowid value valid no_text = first_sides (side_bytes value)
+side_one TextPartition rowid value valid no_text = first_sides (side_bytes value)
+side_one IntMeta rowid value valid no_text = second_sides (side_bytes value)
+side_one TextMeta rowid value valid no_text = second_sides (side_bytes value)
+side_one BoolMeta rowid value valid no_text = second_sides (side_bytes value)
+side_one IntAux rowid value valid no_text = second_sides (side_bytes value)
+side_one TextAux rowid value valid no_text = second_sides (side_bytes value)
+side_one BlobAux rowid value valid no_text = second_sides (side_bytes value)
 
 -- a text key's own bytes
-side_text : (kind : Kind) (rowid : ℤ) (value : Value) → is_valid_value kind rowid value ≡ true → is_text_key kind ≡ true → (side_bytes value ≡ id_bytes (text_in value)) × (is_partition kind ≡ false)
+side_text : (kind : Kind) (rowid : ℤ) (value : Value) → is_valid_value kind rowid value ≡ true → is_text_key kind ≡ true → (side_bytes value ≡ id_bytes (text_in value)) × (counted kind value ≡ 0)
 side_text TextKey rowid value valid text = (by_value value (typed TextKey value (not_null (is_null value) (is_fitting TextKey value) valid)), refl)
   where
     by_value : (value : Value) → is_text value ≡ true → side_bytes value ≡ id_bytes (text_in value)
@@ -120,48 +130,48 @@ side_text IntAux rowid value valid text = absurd cc
 side_text TextAux rowid value valid text = absurd cc
 side_text BlobAux rowid value valid text = absurd cc
 
-partition_bytes : (b : Bool) (value : Value) (partition : List Value) → sum_by side_bytes (cond b (value ∷ partition) partition) ≡ cond b (side_bytes value) 0 + sum_by side_bytes partition
-partition_bytes true value partition = sum_by-cons side_bytes value partition
-partition_bytes false value partition = omega arith
+part_bytes : (b : Bool) (value : Value) (others : List Value) → sum_by side_bytes (cond b (value ∷ others) others) ≡ cond b (side_bytes value) 0 + sum_by side_bytes others
+part_bytes true value others = sum_by-cons side_bytes value others
+part_bytes false value others = omega arith
 
-sides : (columns : List Column) (rowid : ℤ) (values : List Value) → has_some is_metadata columns ≡ false → has_some is_auxiliary columns ≡ false → count_of is_key columns ≤ 1 →
-    are_valid_values columns rowid values ≡ true → sum_by side_bytes values ≡ id_bytes (id_in columns values) + sum_by side_bytes (partition_of columns values)
-sides [] rowid [] no_metadata no_auxiliary few valid = refl
-sides [] rowid (value ∷ values) no_metadata no_auxiliary few valid = absurd cc
-sides (column ∷ columns) rowid [] no_metadata no_auxiliary few valid = absurd cc
-sides (column ∷ columns) rowid (value ∷ values) no_metadata no_auxiliary few valid =
+sides : (columns : List Column) (rowid : ℤ) (values : List Value) → count_of is_key columns ≤ 1 → are_valid_values columns rowid values ≡ true →
+    sum_by side_bytes values ≡ id_bytes (id_in columns values) + sum_by side_bytes (partition_of columns values) + sum_by side_bytes (cells_of columns values)
+sides [] rowid [] few valid = refl
+sides [] rowid (value ∷ values) few valid = absurd cc
+sides (column ∷ columns) rowid [] few valid = absurd cc
+sides (column ∷ columns) rowid (value ∷ values) few valid =
     let parts = and_parts (is_valid_value column.kind rowid value) (are_valid_values columns rowid values) valid in
-    let rest = sides columns rowid values (or_second (is_metadata column.kind) (has_some is_metadata columns) no_metadata)
-    (or_second (is_auxiliary column.kind) (has_some is_auxiliary columns) no_auxiliary) (fewer_keys column columns few) parts.1 in
+    let rest = sides columns rowid values (fewer_keys column columns few) parts.1 in
     let whole = sum_by-cons side_bytes value values in
-    let part = partition_bytes (is_partition column.kind) value (partition_of columns values) in
-    by_test (is_text_key column.kind) (is_partition column.kind) rest whole part
+    let part = part_bytes (is_partition column.kind) value (partition_of columns values) in
+    let cell = part_bytes (is_cell column.kind) value (cells_of columns values) in
+    by_test (is_text_key column.kind) rest whole part cell
     (λ e. side_text column.kind rowid value parts.0 e)
     (λ e. id_in-none columns values (no_id_behind column columns few e))
-    (λ e. side_one column.kind rowid value (or_first (is_metadata column.kind) (has_some is_metadata columns) no_metadata)
-    (or_first (is_auxiliary column.kind) (has_some is_auxiliary columns) no_auxiliary) parts.0 e)
+    (λ e. side_one column.kind rowid value parts.0 e)
   where
-    by_test : (b p : Bool) → sum_by side_bytes values ≡ id_bytes (id_in columns values) + sum_by side_bytes (partition_of columns values) →
+    by_test : (b : Bool) → sum_by side_bytes values ≡ id_bytes (id_in columns values) + sum_by side_bytes (partition_of columns values) + sum_by side_bytes (cells_of columns values) →
         sum_by side_bytes (value ∷ values) ≡ side_bytes value + sum_by side_bytes values →
-        sum_by side_bytes (cond p (value ∷ partition_of columns values) (partition_of columns values)) ≡ cond p (side_bytes value) 0 + sum_by side_bytes (partition_of columns values) →
-        (b ≡ true → (side_bytes value ≡ id_bytes (text_in value)) × (p ≡ false)) →
+        sum_by side_bytes (partition_of (column ∷ columns) (value ∷ values)) ≡ cond (is_partition column.kind) (side_bytes value) 0 + sum_by side_bytes (partition_of columns values) →
+        sum_by side_bytes (cells_of (column ∷ columns) (value ∷ values)) ≡ cond (is_cell column.kind) (side_bytes value) 0 + sum_by side_bytes (cells_of columns values) →
+        (b ≡ true → (side_bytes value ≡ id_bytes (text_in value)) × (counted column.kind value ≡ 0)) →
         (b ≡ true → id_in columns values ≡ None) →
-        (b ≡ false → side_bytes value ≡ cond p (side_bytes value) 0) →
-        sum_by side_bytes (value ∷ values) ≡ id_bytes (if b then text_in value else id_in columns values) + sum_by side_bytes (cond p (value ∷ partition_of columns values) (partition_of columns values))
-    by_test true true rest whole part text none other = absurd cc (text refl).1
-    by_test true false rest whole part text none other =
+        (b ≡ false → side_bytes value ≡ counted column.kind value) →
+        sum_by side_bytes (value ∷ values) ≡ id_bytes (if b then text_in value else id_in columns values) + sum_by side_bytes (partition_of (column ∷ columns) (value ∷ values))
+        + sum_by side_bytes (cells_of (column ∷ columns) (value ∷ values))
+    by_test true rest whole part cell text none other =
         let here = (text refl).0 in
+        let nothing = (text refl).1 in
         let no_id : id_bytes (id_in columns values) ≡ 0 = ap id_bytes (none refl) in
-        omega (arith, rest, whole, part, here, no_id)
-    by_test false p rest whole part text none other = let here = other refl in omega (arith, rest, whole, part, here)
+        omega (arith, rest, whole, part, cell, here, nothing, no_id)
+    by_test false rest whole part cell text none other = let here = other refl in omega (arith, rest, whole, part, cell, here)
 
--- the bytes of a row's texts are those of its text id and its partition values
-pub side_bytes-kept : (columns : List Column) (rowid : ℤ) (values : List Value) → has_some is_metadata columns ≡ false → has_some is_auxiliary columns ≡ false →
-    nat_lt 1 (count_of is_key columns) ≡ false → are_valid_values columns rowid values ≡ true →
-    sum_by side_bytes values ≡ id_bytes (id_in columns values) + sum_by side_bytes (partition_of columns values)
-side_bytes-kept columns rowid values no_metadata no_auxiliary few valid =
+-- the bytes of a row's texts and blobs are those of its text id, its partition values and its cells
+pub side_bytes-kept : (columns : List Column) (rowid : ℤ) (values : List Value) → nat_lt 1 (count_of is_key columns) ≡ false → are_valid_values columns rowid values ≡ true →
+    sum_by side_bytes values ≡ id_bytes (id_in columns values) + sum_by side_bytes (partition_of columns values) + sum_by side_bytes (cells_of columns values)
+side_bytes-kept columns rowid values few valid =
     let keys = ltb-false 1 (count_of is_key columns) few in
-    sides columns rowid values no_metadata no_auxiliary (omega (arith, keys)) valid
+    sides columns rowid values (omega (arith, keys)) valid
 
 -- ---- no text is too long
 

@@ -1,4 +1,6 @@
 pub mod ByteLaws
+pub mod ChangedLaws
+pub mod FilterLaws
 pub mod GivenLaws
 pub mod GrowthLaws
 pub mod InsertLaws
@@ -11,8 +13,10 @@ pub mod ReaderLaws
 pub mod RemoveLaws
 pub mod RoomLaws
 pub mod SchemaShape
+pub mod SettingLaws
 pub mod SoundLaws
 pub mod StoredLaws
+pub mod UpdateLaws
 pub mod ValidityLaws
 pub mod VectorBytes
 pub mod ViewLaws

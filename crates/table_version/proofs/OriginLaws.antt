@@ -5,7 +5,7 @@ use Rattle.std.specs.List.{list_all, AllByRecursion}
 use Rattle.std.specs.Option.{option_map}
 use Rattle.std.proofs.lemmas.Bool.{and_parts}
 use Rattle.vec_base.specs.declared.value.Value.{Value}
-use Rattle.row_model.specs.Schemas.{count_of, is_key, has_some, is_metadata, is_auxiliary}
+use Rattle.row_model.specs.Schemas.{count_of, is_key}
 use Rattle.row_model.specs.Valid.{is_valid_row}
 use Rattle.row_model.specs.declared.schema.Column.{Column}
 use Rattle.row_model.specs.declared.schema.Schema.{Schema}
@@ -13,27 +13,27 @@ use Rattle.row_model.proofs.SchemaLaws.{faultless}
 use Rattle.row_store.specs.StoredRows.{StoredRow, row_of as stored_of, row_at as stored_at}
 use Rattle.row_store.specs.Touches.{StoreState, Follows as FollowsStored, KeepsOrigin as KeepsStored}
 use Rattle.shadow_records.specs.PlacedTables.{PlacedRow, PlacedTable, IsPlaced, plain_rows, row_at, row_of}
-use Rattle.table_version.specs.Versions.{IsPlainSchema, Follows, KeepsOrigin}
+use Rattle.table_version.specs.Versions.{Follows, KeepsOrigin}
 use Rattle.table_version.specs.inner.StoredTables.{placed, placed_rows, stored, table_from, version_of, GivesAgain}
 use Rattle.table_version.proofs.StoredLaws.{found-one, placed-of, placed-at}
 use Rattle.table_version.proofs.WeavingLaws.{woven-back}
 
 -- ---- a valid row is stored and placed again
 
-again_placed : (columns : List Column) (p : PlacedRow) → has_some is_metadata columns ≡ false → has_some is_auxiliary columns ≡ false → nat_lt 1 (count_of is_key columns) ≡ false →
+pub again_placed : (columns : List Column) (p : PlacedRow) → nat_lt 1 (count_of is_key columns) ≡ false →
     is_valid_row columns p.row ≡ true → placed columns (stored columns p) ≡ p
-again_placed columns p no_metadata no_auxiliary few valid =
-    ap (λ (vs : List Value). with_values vs) (woven-back columns p.row.rowid p.row.values no_metadata no_auxiliary few valid)
+again_placed columns p few valid =
+    ap (λ (vs : List Value). with_values vs) (woven-back columns p.row.rowid p.row.values few valid)
   where
     with_values : List Value → PlacedRow
     with_values vs = record { row = record { rowid = p.row.rowid; values = vs }; chunk = p.chunk; slot = p.slot }
 
-all_again : (columns : List Column) (ps : List PlacedRow) → has_some is_metadata columns ≡ false → has_some is_auxiliary columns ≡ false → nat_lt 1 (count_of is_key columns) ≡ false →
+all_again : (columns : List Column) (ps : List PlacedRow) → nat_lt 1 (count_of is_key columns) ≡ false →
     list_all (is_valid_row columns) (plain_rows ps) ≡ true → placed_rows columns (map (stored columns) ps) ≡ ps
-all_again columns [] no_metadata no_auxiliary few valid = refl
-all_again columns (p ∷ ps) no_metadata no_auxiliary few valid =
+all_again columns [] few valid = refl
+all_again columns (p ∷ ps) few valid =
     let parts = and_parts (is_valid_row columns p.row) (list_all (is_valid_row columns) (plain_rows ps)) valid in
-    ap₂ (λ (q : PlacedRow) (qs : List PlacedRow). q ∷ qs) (again_placed columns p no_metadata no_auxiliary few parts.0) (all_again columns ps no_metadata no_auxiliary few parts.1)
+    ap₂ (λ (q : PlacedRow) (qs : List PlacedRow). q ∷ qs) (again_placed columns p few parts.0) (all_again columns ps few parts.1)
 
 stored_again : (columns : List Column) (rows : List StoredRow) → AllByRecursion (GivesAgain columns) rows → map (stored columns) (placed_rows columns rows) ≡ rows
 stored_again columns [] again = refl
@@ -60,19 +60,19 @@ pub record IsStored (columns : List Column) (ps : List PlacedRow) (rows : List S
   pub placed : placed_rows columns rows ≡ ps
   pub again : AllByRecursion (GivesAgain columns) rows
 
-each_stored : (columns : List Column) (ps : List PlacedRow) → has_some is_metadata columns ≡ false → has_some is_auxiliary columns ≡ false → nat_lt 1 (count_of is_key columns) ≡ false →
+each_stored : (columns : List Column) (ps : List PlacedRow) → nat_lt 1 (count_of is_key columns) ≡ false →
     list_all (is_valid_row columns) (plain_rows ps) ≡ true → AllByRecursion (GivesAgain columns) (map (stored columns) ps)
-each_stored columns [] no_metadata no_auxiliary few valid = tt
-each_stored columns (p ∷ ps) no_metadata no_auxiliary few valid =
+each_stored columns [] few valid = tt
+each_stored columns (p ∷ ps) few valid =
     let parts = and_parts (is_valid_row columns p.row) (list_all (is_valid_row columns) (plain_rows ps)) valid in
-    (ap (stored columns) (again_placed columns p no_metadata no_auxiliary few parts.0), each_stored columns ps no_metadata no_auxiliary few parts.1)
+    (ap (stored columns) (again_placed columns p few parts.0), each_stored columns ps few parts.1)
 
-store_base : (table : PlacedTable) (columns : List Column) → table.schema.columns ≡ columns → IsPlaced table → IsPlainSchema table.schema → IsStored columns table.rows (map (stored columns) table.rows)
-store_base table columns same sound plain =
+store_base : (table : PlacedTable) (columns : List Column) → table.schema.columns ≡ columns → IsPlaced table → IsStored columns table.rows (map (stored columns) table.rows)
+store_base table columns same sound =
     let few = (faultless table.schema sound.valid.schema.rules).keys in
     subst (λ (cs : List Column). IsStored cs table.rows (map (stored cs) table.rows)) same (record {
-      placed = all_again table.schema.columns table.rows plain.no_metadata plain.no_auxiliary few sound.valid.values;
-      again = each_stored table.schema.columns table.rows plain.no_metadata plain.no_auxiliary few sound.valid.values;
+      placed = all_again table.schema.columns table.rows few sound.valid.values;
+      again = each_stored table.schema.columns table.rows few sound.valid.values;
     })
 
 -- from the rows of a table to stored rows, and back
@@ -99,13 +99,12 @@ from_at columns ps xs ys c s is same =
 -- ---- what follows
 
 -- what keeps the origin of the store keeps that of the table
-pub keeps-origin : (name : List ℕ) (schema : Schema) (before after : ℤ) (old new : StoreState) → IsPlainSchema schema → AllByRecursion (GivesAgain schema.columns) old.rows → KeepsStored old new →
+pub keeps-origin : (name : List ℕ) (schema : Schema) (before after : ℤ) (old new : StoreState) → AllByRecursion (GivesAgain schema.columns) old.rows → KeepsStored old new →
     KeepsOrigin (version_of name schema before old) (version_of name schema after new)
-keeps-origin name schema before after old new plain again keeps base follows =
+keeps-origin name schema before after old new again keeps base follows =
     let columns = schema.columns in
     let xs = map (stored columns) base.rows in
-    let base_plain = subst IsPlainSchema (sym follows.schema) plain in
-    let is = store_base base columns (ap (λ (s : Schema). s.columns) follows.schema) follows.placed base_plain in
+    let is = store_base base columns (ap (λ (s : Schema). s.columns) follows.schema) follows.placed in
     let first : FollowsStored xs old = record {
       by_rowid = λ i out. to_of columns base.rows xs old.rows i is again (follows.by_rowid i out);
       by_place = λ c s out. to_at columns base.rows xs old.rows c s is again (follows.by_place c s out);

@@ -1,5 +1,5 @@
 -- A table whose rows have sound places keeps them with one row more or less.
-use Rattle.std.proofs.Common.{◌≡◌, ℕ, suc, ℤ, ◌+◌, ◌<◌, ◌≤◌, Bool, true, false, cond, List, [], ◌∷◌, ◌∙◌, refl, sym, ap, subst, arith, length, Some, None}
+use Rattle.std.proofs.Common.{◌≡◌, ℕ, suc, ℤ, ◌+◌, ◌<◌, ◌≤◌, Bool, true, false, cond, List, [], ◌∷◌, ◌∙◌, refl, sym, ap, subst, arith, length, map, Some, None}
 use Rattle.std.specs.Prelude.{◌==◌, ◌&&◌, not, find, int_lt, slice_index_or, if◌then◌else◌}
 use Rattle.std.specs.List.{list_all, AllByRecursion, AllPairs}
 use Rattle.std.specs.Ordering.{int_eq}
@@ -70,6 +70,16 @@ pairs_with R new (p ∷ ps) turn all pairs =
           (All-from_recursion (R p) (with_placed new ps) (each_with (R p) new ps (turn new p all.0) (firsts R p ps pairs)))
           (pairs_with R new ps turn all.1 (laters R p ps pairs))
     ]
+
+each_map : (R : PlacedRow → PlacedRow → Type 0) (g : PlacedRow → PlacedRow) (p : PlacedRow) (ps : List PlacedRow) → ((q : PlacedRow) → R p q → R (g p) (g q)) → AllByRecursion (R p) ps → AllByRecursion (R (g p)) (map g ps)
+each_map R g p [] keep all = tt
+each_map R g p (q ∷ qs) keep all = (keep q all.0, each_map R g p qs keep all.1)
+
+-- what each two rows have they have after a change that keeps it
+pub pairs_map : (R : PlacedRow → PlacedRow → Type 0) (g : PlacedRow → PlacedRow) (ps : List PlacedRow) → ((p q : PlacedRow) → R p q → R (g p) (g q)) → AllPairs R ps → AllPairs R (map g ps)
+pairs_map R g [] keep pairs = λ i j d low high. absurd (omega (arith, high))
+pairs_map R g (p ∷ ps) keep pairs =
+    AllPairs-cons R (g p) (map g ps) (All-from_recursion (R (g p)) (map g ps) (each_map R g p ps (keep p) (firsts R p ps pairs))) (pairs_map R g ps keep (laters R p ps pairs))
 
 -- ---- one row more
 

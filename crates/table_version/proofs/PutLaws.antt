@@ -14,10 +14,12 @@ use Rattle.row_model.specs.RefusalOrder.{first}
 use Rattle.row_model.specs.RepresentableStatements.{AreRepresentable}
 use Rattle.row_model.specs.Values.{side_bytes}
 use Rattle.row_model.specs.declared.schema.Column.{Column}
+use Rattle.row_model.specs.declared.schema.Kind.{Kind}
 use Rattle.row_model.specs.declared.schema.Schema.{Schema}
 use Rattle.row_model.proofs.SchemaLaws.{faultless}
 use Rattle.row_store.specs.StoredRows.{StoredRow, rowid_of, row_of as stored_of, row_with_id as stored_with_id}
 use Rattle.row_store.specs.Touches.{StoreState, IsPut, HasSameShape, KeepsOrigin as KeepsStored}
+use Rattle.row_chunks.specs.Cells.{are_cell_values, cells_of}
 use Rattle.shadow_records.specs.PlacedTables.{partition_of, plain, plain_rows}
 use Rattle.table_version.specs.Inserting.{are_fitting, insert_refusals, new_row, IsInserted}
 use Rattle.table_version.specs.Kept.{id_in}
@@ -30,7 +32,7 @@ use Rattle.table_version.proofs.InsertLaws.{has_rowid-stored, not-refused, taken
 use Rattle.table_version.proofs.OriginLaws.{keeps-origin}
 use Rattle.table_version.proofs.SoundLaws.{IsGiven, inserted, sides_fit, sound-put}
 use Rattle.table_version.proofs.ValidityLaws.{assigned-fresh}
-use Rattle.table_version.proofs.WeavingLaws.{widths-fit}
+use Rattle.table_version.proofs.WeavingLaws.{cells-fit, widths-fit}
 
 -- ---- refusals
 
@@ -114,15 +116,22 @@ put_widths name schema top store sides values sound fits =
     let columns = schema.columns in
     let well = keyed-well columns top values fits in
     ap (λ (vs : List (List ℕ)). map length vs) (sym well.vectors)
-    ∙ widths-fit columns top (keyed columns top values) sound.plain.no_metadata sound.plain.no_auxiliary well.valid
+    ∙ widths-fit columns top (keyed columns top values) well.valid
     ∙ sym sound.widths
+
+pub put_cells : (name : List ℕ) (schema : Schema) (top : ℤ) (store : StoreState) (sides : ℕ) (values : List Value) → IsSound name schema top store sides → are_fitting schema.columns values ≡ true →
+    are_cell_values store.kinds (cells_of schema.columns values) ≡ true
+put_cells name schema top store sides values sound fits =
+    let columns = schema.columns in
+    let well = keyed-well columns top values fits in
+    ap₂ (λ (ks : List Kind) (cs : List Value). are_cell_values ks cs) sound.kinds (sym well.cells) ∙ cells-fit columns top (keyed columns top values) well.valid
 
 pub put_few : (name : List ℕ) (schema : Schema) (top : ℤ) (store : StoreState) (sides : ℕ) → IsSound name schema top store sides → length store.rows < 2 ^ 64 - 1
 put_few name schema top store sides sound = let few = rows_few name schema top store sides sound in omega (arith, few)
 
 -- the bytes of texts stay within 64 bits
 pub put_sides : (name : List ℕ) (schema : Schema) (top : ℤ) (old new : StoreState) (sides : ℕ) (rowid : Option ℤ) (values : List Value) →
-    IsGiven name schema top old sides rowid values → IsPut old new (assigned top rowid) (id_in schema.columns values) (partition_of schema.columns values) (vectors_of values) → HasSameShape old new →
+    IsGiven name schema top old sides rowid values → IsPut old new (assigned top rowid) (id_in schema.columns values) (partition_of schema.columns values) (vectors_of values) (cells_of schema.columns values) → HasSameShape old new →
     sides + sum_by side_bytes values < 2 ^ 64
 put_sides name schema top old new sides rowid values given put shape =
     sides_fit name schema (larger top (assigned top rowid)) new (sides + sum_by side_bytes values) (sound-put name schema top old new sides rowid values given put shape)
@@ -161,20 +170,20 @@ made_of v name schema top store sides made rowid values view sound is fits none 
 
 -- what the store tells of the put
 pub record IsDone (schema : Schema) (old new : StoreState) (made : ℤ) (values : List Value) : Type 0 where
-  pub put : IsPut old new made (id_in schema.columns values) (partition_of schema.columns values) (vectors_of values)
+  pub put : IsPut old new made (id_in schema.columns values) (partition_of schema.columns values) (vectors_of values) (cells_of schema.columns values)
   pub shape : HasSameShape old new
 
 pub made_sound : (name : List ℕ) (schema : Schema) (top : ℤ) (old new : StoreState) (sides : ℕ) (made : ℤ) (rowid : Option ℤ) (values : List Value) → IsMade name schema top old sides made rowid values →
     IsDone schema old new made values → IsSound name schema (larger top made) new (sides + sum_by side_bytes values)
 made_sound name schema top old new sides made rowid values m done =
-    let put = subst (λ (n : ℤ). IsPut old new n (id_in schema.columns values) (partition_of schema.columns values) (vectors_of values)) m.is done.put in
+    let put = subst (λ (n : ℤ). IsPut old new n (id_in schema.columns values) (partition_of schema.columns values) (vectors_of values) (cells_of schema.columns values)) m.is done.put in
     subst (λ (n : ℤ). IsSound name schema (larger top n) new (sides + sum_by side_bytes values)) (sym m.is) (sound-put name schema top old new sides rowid values m.given put done.shape)
 
 pub made_inserted : (v : VersionState) (name : List ℕ) (schema : Schema) (top : ℤ) (old new : StoreState) (sides : ℕ) (made after : ℤ) (rowid : Option ℤ) (values : List Value) → version_of name schema top old ≡ v →
     IsMade name schema top old sides made rowid values → IsDone schema old new made values → after ≡ larger top made →
     IsInserted v.table (table_from name schema after new.rows) (new_row (plain v.table) rowid values)
 made_inserted v name schema top old new sides made after rowid values view m done is =
-    let put = subst (λ (n : ℤ). IsPut old new n (id_in schema.columns values) (partition_of schema.columns values) (vectors_of values)) m.is done.put in
+    let put = subst (λ (n : ℤ). IsPut old new n (id_in schema.columns values) (partition_of schema.columns values) (vectors_of values) (cells_of schema.columns values)) m.is done.put in
     let after_is : after ≡ larger top (assigned top rowid) = is ∙ ap (λ (n : ℤ). larger top n) m.is in
     subst (λ (w : VersionState). IsInserted w.table (table_from name schema after new.rows) (new_row (plain w.table) rowid values)) view
     (subst (λ (t : ℤ). IsInserted (table_from name schema top old.rows) (table_from name schema t new.rows) (new_row (plain (table_from name schema top old.rows)) rowid values)) (sym after_is)
@@ -183,4 +192,4 @@ made_inserted v name schema top old new sides made after rowid values view m don
 pub made_origin : (v : VersionState) (name : List ℕ) (schema : Schema) (top after : ℤ) (old new : StoreState) (sides : ℕ) → version_of name schema top old ≡ v → IsSound name schema top old sides → KeepsStored old new →
     KeepsOrigin v (version_of name schema after new)
 made_origin v name schema top after old new sides view sound keeps =
-    subst (λ (w : VersionState). KeepsOrigin w (version_of name schema after new)) view (keeps-origin name schema top after old new sound.plain sound.again keeps)
+    subst (λ (w : VersionState). KeepsOrigin w (version_of name schema after new)) view (keeps-origin name schema top after old new sound.again keeps)

@@ -1,9 +1,10 @@
 -- What readers of a store tell of the table.
 use Rattle.std.proofs.Common.{◌≡◌, ℕ, suc, ℤ, ◌<◌, true, List, [], ◌∷◌, ◌∙◌, refl, sym, ap, length, Option, Some, None}
-use Rattle.std.specs.Prelude.{◌==◌, find, is_some, IfSome, MatchOption}
+use Rattle.std.specs.Prelude.{◌==◌, find, is_some, MatchOption}
 use Rattle.std.specs.List.{AllByRecursion}
 use Rattle.std.specs.Option.{option_map}
-use Rattle.chunk_slots.specs.Slots.{Slots, slot_at}
+use Rattle.chunk_slots.specs.Slots.{slot_at as plain_at}
+use Rattle.row_chunks.specs.RowSlots.{RowSlots, plain_slots, slot_at, vectors_alone}
 use Rattle.row_model.specs.declared.schema.Column.{Column}
 use Rattle.row_store.specs.Shown.{held_of}
 use Rattle.row_store.specs.StoredRows.{StoredRow, lies_at, rowid_of, row_at as stored_at, first_in as first_stored, row_with_id as stored_with_id, next_row as next_stored}
@@ -12,6 +13,7 @@ use Rattle.table_version.specs.Inserting.{partition_in}
 use Rattle.table_version.specs.Versions.{next_row, row_with_id, rowid_in, slot_of_row}
 use Rattle.table_version.specs.inner.StoredTables.{placed, placed_rows, GivesAgain}
 use Rattle.table_version.proofs.StoredLaws.{found-one, placed-at, placed-first, placed-next, placed-with_id, same_partition, same_rowid}
+use Rattle.table_version.proofs.ViewLaws.{plain-slot}
 
 pub length_placed : (columns : List Column) (rows : List StoredRow) → length (placed_rows columns rows) ≡ length rows
 length_placed columns [] = refl
@@ -29,13 +31,13 @@ pub partition_of_first : (columns : List Column) (rows : List StoredRow) (c : �
 partition_of_first columns rows c again = same_partition columns (λ row. c == row.chunk) rows again ∙ ap (λ o. option_map (partition_in columns) o) (sym (placed-first columns rows c))
 
 pub held_in_slot : (columns : List Column) (rows : List StoredRow) (c s : ℕ) → AllByRecursion (GivesAgain columns) rows →
-    option_map held_of (stored_at rows c s) ≡ option_map slot_of_row (row_at (placed_rows columns rows) c s)
+    option_map vectors_alone (option_map held_of (stored_at rows c s)) ≡ option_map slot_of_row (row_at (placed_rows columns rows) c s)
 held_in_slot columns rows c s again = by_found (stored_at rows c s) refl ∙ ap (λ o. option_map slot_of_row o) (sym (placed-at columns rows c s)) where
-  by_found : (o : Option StoredRow) → find (lies_at c s) rows ≡ o → option_map held_of o ≡ option_map slot_of_row (option_map (placed columns) o)
+  by_found : (o : Option StoredRow) → find (lies_at c s) rows ≡ o → option_map vectors_alone (option_map held_of o) ≡ option_map slot_of_row (option_map (placed columns) o)
   by_found None e = refl
   by_found (Some x) e =
       let same = (found-one (GivesAgain columns) (lies_at c s) rows x again e).0 in
-      ap (λ (r : StoredRow). Some (held_of r)) (sym same)
+      ap (λ (r : StoredRow). Some (vectors_alone (held_of r))) (sym same)
 
 pub there_first : (columns : List Column) (rows : List StoredRow) (c : ℕ) → is_some (first_stored rows c) ≡ is_some (first_in (placed_rows columns rows) c)
 there_first columns rows c = same_some columns (first_stored rows c) ∙ ap is_some (sym (placed-first columns rows c)) where
@@ -56,8 +58,6 @@ pub next_after : (columns : List Column) (rows : List StoredRow) (after : ℕ) (
 next_after columns rows after None none = λ d low. none_first columns rows d (none d low)
 next_after columns rows after (Some c) is = (is.0, sym (there_first columns rows c) ∙ is.1, λ d low high. none_first columns rows d (is.2 d low high))
 
-pub held_all : {A : Type 0} (columns : List Column) (rows : List StoredRow) (c : ℕ) (result : Option A) (slots_of : A → Slots) → AllByRecursion (GivesAgain columns) rows →
-    IfSome result (λ a. (s : ℕ) → slot_at (slots_of a) s ≡ option_map held_of (stored_at rows c s)) →
-    IfSome result (λ a. (s : ℕ) → slot_at (slots_of a) s ≡ option_map slot_of_row (row_at (placed_rows columns rows) c s))
-held_all columns rows c None slots_of again is = tt
-held_all columns rows c (Some a) slots_of again is = λ s. is s ∙ held_in_slot columns rows c s again
+pub held_all : (columns : List Column) (rows : List StoredRow) (c s : ℕ) (chunk : RowSlots) → AllByRecursion (GivesAgain columns) rows →
+    slot_at chunk s ≡ option_map held_of (stored_at rows c s) → plain_at (plain_slots chunk) s ≡ option_map slot_of_row (row_at (placed_rows columns rows) c s)
+held_all columns rows c s chunk again is = plain-slot chunk s ∙ ap (λ o. option_map vectors_alone o) is ∙ held_in_slot columns rows c s again

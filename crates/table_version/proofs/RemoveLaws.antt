@@ -41,9 +41,9 @@ row_bytes name schema top store sides i s sound found =
     let again = (found-one (GivesAgain columns) (λ x. int_eq x.rowid i) store.rows s sound.again found).0 in
     let valid = found-valid (plain (table_from name schema top store.rows)) i (placed columns s).row sound.placed.valid (plain_found columns store.rows i s found) in
     let few = (faultless schema sound.placed.valid.schema.rules).keys in
-    side_bytes-kept columns (placed columns s).row.rowid (placed columns s).row.values sound.plain.no_metadata sound.plain.no_auxiliary few valid.valid
-    ∙ ap (λ (r : StoredRow). id_bytes r.id + sum_by side_bytes r.partition) again
-    ∙ ap (λ (n : ℕ). n + sum_by side_bytes s.partition) (same_id_bytes s.id)
+    side_bytes-kept columns (placed columns s).row.rowid (placed columns s).row.values few valid.valid
+    ∙ ap (λ (r : StoredRow). id_bytes r.id + sum_by side_bytes r.partition + sum_by side_bytes r.cells) again
+    ∙ ap (λ (n : ℕ). n + sum_by side_bytes s.partition + sum_by side_bytes s.cells) (same_id_bytes s.id)
 
 none_some : {A : Type 0} (o : Option A) → o ≡ None → is_some o ≡ false
 none_some o is = ap is_some is

@@ -1,5 +1,5 @@
 -- A sound store stays one: with no rows, with one row more, and with one row less.
-use Rattle.std.proofs.Common.{◌≡◌, ℕ, ℤ, pos, ◌+◌, ◌<◌, ◌≤◌, ◌^◌, true, false, List, [], ◌∷◌, ◌∙◌, refl, sym, ap, subst, arith, length, Option}
+use Rattle.std.proofs.Common.{◌≡◌, ℕ, ℤ, pos, ◌+◌, ◌<◌, ◌≤◌, ◌^◌, true, false, List, [], ◌∷◌, ◌∙◌, refl, sym, ap, ap₂, subst, arith, length, Option}
 use Rattle.std.specs.Prelude.{◌==◌, find, sum_by, nat_lt, FitsSigned}
 use Rattle.std.specs.Int.{w64}
 use Rattle.std.specs.List.{All, AllByRecursion}
@@ -25,9 +25,9 @@ use Rattle.shadow_records.specs.PlacedTables.{PlacedRow, PlacedTable, IsPlaced, 
 use Rattle.table_version.specs.Inserting.{are_fitting, insert_refusals, new_row, partition_in, ArePlacesOf, IsInserted}
 use Rattle.table_version.specs.Kept.{id_in, widths_of}
 use Rattle.table_version.specs.PlacedRows.{with_placed, table_with, table_without}
-use Rattle.table_version.specs.Versions.{IsPlainSchema}
-use Rattle.table_version.specs.inner.StoredTables.{placed_rows, stored, table_from, GivesAgain, IsSound}
-use Rattle.table_version.specs.inner.Weaving.{woven}
+use Rattle.row_chunks.specs.Cells.{cells_of, kinds_of}
+use Rattle.table_version.specs.inner.StoredTables.{kept_of, placed_rows, stored, table_from, GivesAgain, IsSound}
+use Rattle.table_version.specs.inner.Weaving.{KeptValues, woven}
 use Rattle.table_version.proofs.ByteLaws.{side_bytes-fit, side_bytes-with}
 use Rattle.table_version.proofs.GivenLaws.{AreKeyedWell, keyed-well, keyed-representable}
 use Rattle.table_version.proofs.InsertLaws.{none_twice, not-refused}
@@ -59,6 +59,7 @@ pub record IsStoredNew (columns : List Column) (rowid : ℤ) (values : List Valu
   pub id : s.id ≡ id_in columns values
   pub partition : s.partition ≡ partition_of columns values
   pub vectors : s.vectors ≡ vectors_of values
+  pub cells : s.cells ≡ cells_of columns values
 
 few_keys : (schema : Schema) → IsValidSchema schema → nat_lt 1 (count_of is_key schema.columns) ≡ false
 few_keys schema valid = (faultless schema valid.rules).keys
@@ -66,28 +67,32 @@ few_keys schema valid = (faultless schema valid.rules).keys
 abbrev row_at_place : ℤ → ℕ → ℕ → List Value → PlacedRow
 row_at_place rowid chunk slot values = record { row = record { rowid = rowid; values = values }; chunk = chunk; slot = slot }
 
-abbrev stored_row : ℤ → ℕ → ℕ → Option (List ℕ) → List Value → List (List ℕ) → StoredRow
-stored_row rowid chunk slot id partition vectors = record { rowid = rowid; chunk = chunk; slot = slot; id = id; partition = partition; vectors = vectors }
+abbrev stored_row : ℤ → ℕ → ℕ → Option (List ℕ) → KeptValues → StoredRow
+stored_row rowid chunk slot id kept = record { rowid = rowid; chunk = chunk; slot = slot; id = id; partition = kept.partition; vectors = kept.vectors; cells = kept.cells }
 
-weave : (schema : Schema) (rowid : ℤ) (values : List Value) → IsValidSchema schema → IsPlainSchema schema → AreKeyedWell schema.columns rowid values →
-    woven schema.columns rowid (id_in schema.columns values) (partition_of schema.columns values) (vectors_of values) ≡ keyed schema.columns rowid values
-weave schema rowid values valid plain well =
+-- what is kept of the values is kept of them with the rowid in the key's place
+same_kept : (columns : List Column) (rowid : ℤ) (values : List Value) → AreKeyedWell columns rowid values → kept_of columns (keyed columns rowid values) ≡ kept_of columns values
+same_kept columns rowid values well =
+    ap₂ (λ (p c : List Value). kept_with p (vectors_of (keyed columns rowid values)) c) well.partition well.cells
+    ∙ ap (λ (v : List (List ℕ)). kept_with (partition_of columns values) v (cells_of columns values)) well.vectors
+  where
+    kept_with : List Value → List (List ℕ) → List Value → KeptValues
+    kept_with p v c = record { partition = p; vectors = v; cells = c }
+
+weave : (schema : Schema) (rowid : ℤ) (values : List Value) → IsValidSchema schema → AreKeyedWell schema.columns rowid values →
+    woven schema.columns rowid (id_in schema.columns values) (kept_of schema.columns values) ≡ keyed schema.columns rowid values
+weave schema rowid values valid well =
     let columns = schema.columns in
-    let back = woven-back columns rowid (keyed columns rowid values) plain.no_metadata plain.no_auxiliary (few_keys schema valid) well.valid in
-    ap (λ (id : Option (List ℕ)). woven columns rowid id (partition_of columns values) (vectors_of values)) (sym well.id)
-    ∙ ap (λ (p : List Value). woven columns rowid (id_in columns (keyed columns rowid values)) p (vectors_of values)) (sym well.partition)
-    ∙ ap (λ (v : List (List ℕ)). woven columns rowid (id_in columns (keyed columns rowid values)) (partition_of columns (keyed columns rowid values)) v) (sym well.vectors)
-    ∙ back
+    let back = woven-back columns rowid (keyed columns rowid values) (few_keys schema valid) well.valid in
+    ap₂ (λ (id : Option (List ℕ)) (kept : KeptValues). woven columns rowid id kept) (sym well.id) (sym (same_kept columns rowid values well)) ∙ back
 
-again_new : (schema : Schema) (rowid : ℤ) (values : List Value) (chunk slot : ℕ) → IsValidSchema schema → IsPlainSchema schema → AreKeyedWell schema.columns rowid values →
-    GivesAgain schema.columns (stored_row rowid chunk slot (id_in schema.columns values) (partition_of schema.columns values) (vectors_of values))
-again_new schema rowid values chunk slot valid plain well =
+again_new : (schema : Schema) (rowid : ℤ) (values : List Value) (chunk slot : ℕ) → IsValidSchema schema → AreKeyedWell schema.columns rowid values →
+    GivesAgain schema.columns (stored_row rowid chunk slot (id_in schema.columns values) (kept_of schema.columns values))
+again_new schema rowid values chunk slot valid well =
     let columns = schema.columns in
     let keys = keyed columns rowid values in
-    ap (λ (vs : List Value). stored columns (row_at_place rowid chunk slot vs)) (weave schema rowid values valid plain well)
-    ∙ ap (λ (id : Option (List ℕ)). stored_row rowid chunk slot id (partition_of columns keys) (vectors_of keys)) well.id
-    ∙ ap (λ (p : List Value). stored_row rowid chunk slot (id_in columns values) p (vectors_of keys)) well.partition
-    ∙ ap (λ (v : List (List ℕ)). stored_row rowid chunk slot (id_in columns values) (partition_of columns values) v) well.vectors
+    ap (λ (vs : List Value). stored columns (row_at_place rowid chunk slot vs)) (weave schema rowid values valid well)
+    ∙ ap₂ (λ (id : Option (List ℕ)) (kept : KeptValues). stored_row rowid chunk slot id kept) well.id (same_kept columns rowid values well)
 
 -- values that fit and are not refused, and the store that they are put into
 pub record IsGiven (name : List ℕ) (schema : Schema) (top : ℤ) (store : StoreState) (sides : ℕ) (rowid : Option ℤ) (values : List Value) : Type 0 where
@@ -135,24 +140,24 @@ given_fresh name schema top store sides rowid values places place given are take
 
 -- the table after a put
 table_put : (name : List ℕ) (schema : Schema) (top : ℤ) (old new : StoreState) (sides : ℕ) (rowid : Option ℤ) (values : List Value) →
-    IsGiven name schema top old sides rowid values → (put : IsPut old new (assigned top rowid) (id_in schema.columns values) (partition_of schema.columns values) (vectors_of values)) →
+    IsGiven name schema top old sides rowid values → (put : IsPut old new (assigned top rowid) (id_in schema.columns values) (partition_of schema.columns values) (vectors_of values) (cells_of schema.columns values)) →
     table_from name schema (larger top (assigned top rowid)) new.rows
     ≡ table_with (table_from name schema top old.rows) (row_at_place (assigned top rowid) (chunk_of put.place) (slot_of put.place) (keyed schema.columns (assigned top rowid) values))
 table_put name schema top old new sides rowid values given put =
     let columns = schema.columns in
     let made = assigned top rowid in
     let well = keyed-well columns made values given.fits in
-    let s = stored_row made (chunk_of put.place) (slot_of put.place) (id_in columns values) (partition_of columns values) (vectors_of values) in
+    let s = stored_row made (chunk_of put.place) (slot_of put.place) (id_in columns values) (kept_of columns values) in
     let rows = ap (λ (rs : List StoredRow). placed_rows columns rs) put.rows ∙ placed-with columns s old.rows
     ∙ ap (λ (vs : List Value). with_placed (row_at_place made (chunk_of put.place) (slot_of put.place) vs) (placed_rows columns old.rows))
-    (weave schema made values given.sound.placed.valid.schema given.sound.plain well) in
+    (weave schema made values given.sound.placed.valid.schema well) in
     ap (λ (ps : List PlacedRow). table_of name schema (larger top made) ps) rows
   where
     table_of : List ℕ → Schema → ℤ → List PlacedRow → PlacedTable
     table_of n s t ps = record { name = n; schema = s; top = t; rows = ps }
 
 pub inserted : (name : List ℕ) (schema : Schema) (top : ℤ) (old new : StoreState) (sides : ℕ) (rowid : Option ℤ) (values : List Value) →
-    IsGiven name schema top old sides rowid values → IsPut old new (assigned top rowid) (id_in schema.columns values) (partition_of schema.columns values) (vectors_of values) →
+    IsGiven name schema top old sides rowid values → IsPut old new (assigned top rowid) (id_in schema.columns values) (partition_of schema.columns values) (vectors_of values) (cells_of schema.columns values) →
     IsInserted (table_from name schema top old.rows) (table_from name schema (larger top (assigned top rowid)) new.rows) (new_row (plain (table_from name schema top old.rows)) rowid values)
 inserted name schema top old new sides rowid values given put =
     let well = keyed-well schema.columns (assigned top rowid) values given.fits in
@@ -172,31 +177,31 @@ sides_put old new p bytes more is before one =
     omega (arith, whole, before, one)
 
 pub sound-put : (name : List ℕ) (schema : Schema) (top : ℤ) (old new : StoreState) (sides : ℕ) (rowid : Option ℤ) (values : List Value) →
-    IsGiven name schema top old sides rowid values → IsPut old new (assigned top rowid) (id_in schema.columns values) (partition_of schema.columns values) (vectors_of values) → HasSameShape old new →
+    IsGiven name schema top old sides rowid values → IsPut old new (assigned top rowid) (id_in schema.columns values) (partition_of schema.columns values) (vectors_of values) (cells_of schema.columns values) → HasSameShape old new →
     IsSound name schema (larger top (assigned top rowid)) new (sides + sum_by side_bytes values)
 sound-put name schema top old new sides rowid values given put shape =
     let made = assigned top rowid in
     let table = table_from name schema top old.rows in
     let well = keyed-well schema.columns made values given.fits in
     let p = row_at_place made (chunk_of put.place) (slot_of put.place) (keyed schema.columns made values) in
-    let s = stored_row made (chunk_of put.place) (slot_of put.place) (id_in schema.columns values) (partition_of schema.columns values) (vectors_of values) in
+    let s = stored_row made (chunk_of put.place) (slot_of put.place) (id_in schema.columns values) (kept_of schema.columns values) in
     let is = table_put name schema top old new sides rowid values given put in
     let fresh = given_fresh name schema top old sides rowid values put.places put.place given put.are put.taken in
     record {
       placed = subst IsPlaced (sym is) (table-with table p given.sound.placed fresh);
-      plain = given.sound.plain;
       size = shape.size ∙ given.sound.size;
       widths = shape.widths ∙ given.sound.widths;
+      kinds = shape.kinds ∙ given.sound.kinds;
       again = subst (λ (rs : List StoredRow). AllByRecursion (GivesAgain schema.columns) rs) (sym put.rows)
-          (all-with (GivesAgain schema.columns) s old.rows (again_new schema made values (chunk_of put.place) (slot_of put.place) given.sound.placed.valid.schema given.sound.plain well) given.sound.again);
+          (all-with (GivesAgain schema.columns) s old.rows (again_new schema made values (chunk_of put.place) (slot_of put.place) given.sound.placed.valid.schema well) given.sound.again);
       sides = sides_put table (table_from name schema (larger top made) new.rows) p sides (sum_by side_bytes values) is given.sound.sides well.sides;
     }
 
 -- ---- no rows
 
-pub sound-empty : (name : List ℕ) (schema : Schema) (store : StoreState) → is_name name ≡ true → IsValidSchema schema → IsPlainSchema schema →
-    store.rows ≡ [] → store.size ≡ schema.chunk_size → store.widths ≡ widths_of schema.columns → IsSound name schema (pos 0) store 0
-sound-empty name schema store named valid plain none size widths =
+pub sound-empty : (name : List ℕ) (schema : Schema) (store : StoreState) → is_name name ≡ true → IsValidSchema schema →
+    store.rows ≡ [] → store.size ≡ schema.chunk_size → store.widths ≡ widths_of schema.columns → store.kinds ≡ kinds_of schema.columns → IsSound name schema (pos 0) store 0
+sound-empty name schema store named valid none size widths kinds =
     subst (λ (rows : List StoredRow). IsSound name schema (pos 0) (record store { rows = rows }) 0) (sym none) (record {
       placed = record {
         valid = record { schema = valid; values = refl; rising = refl; own_ids = refl; from_zero = refl; topped = refl; few = refl; representable = tt; last = refl };
@@ -205,9 +210,9 @@ sound-empty name schema store named valid plain none size widths =
         apart = λ i j d low high. absurd (omega (arith, high));
         alike = λ i j d low high. absurd (omega (arith, high));
       };
-      plain = plain;
       size = size;
       widths = widths;
+      kinds = kinds;
       again = tt;
       sides = refl;
     })
@@ -231,9 +236,9 @@ pub sound-without : (name : List ℕ) (schema : Schema) (top i : ℤ) (old new :
 sound-without name schema top i old new sides less sound is shape bytes =
     record {
       placed = subst IsPlaced (sym (table_removed name schema top i old.rows new.rows is)) (table-less (table_from name schema top old.rows) i sound.placed);
-      plain = sound.plain;
       size = shape.size ∙ sound.size;
       widths = shape.widths ∙ sound.widths;
+      kinds = shape.kinds ∙ sound.kinds;
       again = subst (λ (rs : List StoredRow). AllByRecursion (GivesAgain schema.columns) rs) (sym is) (all-without (GivesAgain schema.columns) i old.rows sound.again);
       sides = bytes;
     }
@@ -243,9 +248,9 @@ pub sound-kept : (name : List ℕ) (schema : Schema) (top : ℤ) (old new : Stor
 sound-kept name schema top old new sides sound is shape =
     record {
       placed = subst (λ (rs : List StoredRow). IsPlaced (table_from name schema top rs)) (sym is) sound.placed;
-      plain = sound.plain;
       size = shape.size ∙ sound.size;
       widths = shape.widths ∙ sound.widths;
+      kinds = shape.kinds ∙ sound.kinds;
       again = subst (λ (rs : List StoredRow). AllByRecursion (GivesAgain schema.columns) rs) (sym is) sound.again;
       sides = subst (λ (rs : List StoredRow). sides ≡ rows_side_bytes (plain_rows (placed_rows schema.columns rs))) (sym is) sound.sides;
     }

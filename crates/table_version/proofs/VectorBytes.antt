@@ -51,7 +51,7 @@ length_plain columns (s ∷ ss) = ap suc (length_plain columns ss)
 pub rows_counted : (name : List ℕ) (schema : Schema) (top : ℤ) (store : StoreState) (sides : ℕ) → IsSound name schema top store sides →
     rows_vector_bytes (plain_rows (placed_rows schema.columns store.rows)) ≡ length store.rows * total_width (widths_of schema.columns)
 rows_counted name schema top store sides sound =
-    rows_vector_bytes-fixed schema.columns (plain_rows (placed_rows schema.columns store.rows)) sound.plain.no_metadata sound.plain.no_auxiliary sound.placed.valid.values
+    rows_vector_bytes-fixed schema.columns (plain_rows (placed_rows schema.columns store.rows)) sound.placed.valid.values
     ∙ ap (λ n. n * total_width (widths_of schema.columns)) (length_plain schema.columns store.rows)
 
 pub rows_fit : (name : List ℕ) (schema : Schema) (top : ℤ) (store : StoreState) (sides : ℕ) → IsSound name schema top store sides →

@@ -11,7 +11,7 @@ use Rattle.vec_base.specs.declared.value.Value.{Value}
 use Rattle.vec_base.specs.declared.value.Value.TheVariants.{Null, Int, Text, Blob, Int8, Bits}
 use Rattle.row_model.specs.Change.{is_same_text, same_id}
 use Rattle.row_model.specs.ColumnNames.{is_text_key, has_text_key}
-use Rattle.row_model.specs.Schemas.{is_key, is_vector, is_partition, is_metadata, is_auxiliary, count_of, has_some, is_misfit_int8, is_misfit_bits, IsValidSchema}
+use Rattle.row_model.specs.Schemas.{is_key, is_vector, is_partition, count_of, has_some, is_misfit_int8, is_misfit_bits, IsValidSchema}
 use Rattle.row_model.specs.Valid.{is_number, is_fitting, is_valid_value, are_valid_values}
 use Rattle.row_model.specs.Values.{is_null, is_int, is_text, is_int8, is_bits, is_of_kind, is_shaped, dimensions, width_of, side_bytes}
 use Rattle.row_model.specs.declared.schema.Column.{Column}
@@ -23,7 +23,9 @@ use Rattle.row_model.proofs.SchemaLaws.{faultless}
 use Rattle.shadow_records.specs.PlacedTables.{partition_of}
 use Rattle.chunk_slots.specs.Slots.{vector_of, vectors_of}
 use Rattle.vec_base.specs.declared.limits.TheConstants.{MOST_DIMENSIONS, MOST_VALUE_BYTES, MOST_VECTOR_COLUMNS}
-use Rattle.table_version.specs.inner.Weaving.{id_text, past, woven_value, woven}
+use Rattle.row_chunks.specs.Cells.{are_cell_values, cells_of, is_cell, is_cell_value, kinds_of}
+use Rattle.table_version.specs.inner.StoredTables.{kept_of}
+use Rattle.table_version.specs.inner.Weaving.{KeptValues, behind, id_text, past, woven_value, woven}
 use Rattle.table_version.specs.Kept.{text_in, id_in, is_one_id, is_partition_value, vector_width, widths_of}
 
 -- ---- what a value of a type is
@@ -89,67 +91,173 @@ shaped kind value h =
     by_type true b e g = g
     by_type false b e g = absurd cc
 
+-- ---- values that are no vectors
+
+int8_kind : (kind : Kind) (vector : List ℕ) → is_of_kind kind (Int8 vector) ≡ true → is_vector kind ≡ true
+int8_kind IntKey vector h = absurd cc
+int8_kind TextKey vector h = absurd cc
+int8_kind (Int8Vector width metric) vector h = refl
+int8_kind (BitVector width) vector h = absurd cc
+int8_kind IntPartition vector h = absurd cc
+int8_kind TextPartition vector h = absurd cc
+int8_kind IntMeta vector h = absurd cc
+int8_kind TextMeta vector h = absurd cc
+int8_kind BoolMeta vector h = absurd cc
+int8_kind IntAux vector h = absurd cc
+int8_kind TextAux vector h = absurd cc
+int8_kind BlobAux vector h = absurd cc
+
+bits_kind : (kind : Kind) (vector : List ℕ) → is_of_kind kind (Bits vector) ≡ true → is_vector kind ≡ true
+bits_kind IntKey vector h = absurd cc
+bits_kind TextKey vector h = absurd cc
+bits_kind (Int8Vector width metric) vector h = absurd cc
+bits_kind (BitVector width) vector h = refl
+bits_kind IntPartition vector h = absurd cc
+bits_kind TextPartition vector h = absurd cc
+bits_kind IntMeta vector h = absurd cc
+bits_kind TextMeta vector h = absurd cc
+bits_kind BoolMeta vector h = absurd cc
+bits_kind IntAux vector h = absurd cc
+bits_kind TextAux vector h = absurd cc
+bits_kind BlobAux vector h = absurd cc
+
+-- a value of a column that is none of vectors
+pub no_vector : (kind : Kind) (value : Value) → is_vector kind ≡ false → is_cell_value kind value ≡ true → vector_of value ≡ None
+no_vector kind Null other fits = refl
+no_vector kind (Int n) other fits = refl
+no_vector kind (Text text) other fits = refl
+no_vector kind (Blob bytes) other fits = refl
+no_vector kind (Int8 vector) other fits = let there = int8_kind kind vector (typed kind (Int8 vector) fits) in absurd cc
+no_vector kind (Bits vector) other fits = let there = bits_kind kind vector (typed kind (Bits vector) fits) in absurd cc
+
 -- ---- one column
+
+abbrev pub with_kept : Kind → Value → KeptValues → KeptValues
+with_kept kind value kept = record {
+  partition = cond (is_partition kind) (value ∷ kept.partition) kept.partition;
+  vectors = cons_option (vector_of value) kept.vectors;
+  cells = cond (is_cell kind) (value ∷ kept.cells) kept.cells;
+}
 
 -- what is kept of a value in a column of the kind gives it back, and is like the column
 record IsKept (kind : Kind) (rowid : ℤ) (value : Value) : Type 0 where
-  back : (id : Option (List ℕ)) (partition : List Value) (vectors : List (List ℕ)) → (is_text_key kind ≡ true → id ≡ text_in value) →
-      woven_value kind rowid id (cond (is_partition kind) (value ∷ partition) partition) (cons_option (vector_of value) vectors) ≡ value
+  back : (id : Option (List ℕ)) (kept : KeptValues) → (is_text_key kind ≡ true → id ≡ text_in value) → woven_value kind rowid id (with_kept kind value kept) ≡ value
   rest : (vectors : List (List ℕ)) → past (is_vector kind) (cons_option (vector_of value) vectors) ≡ vectors
   wide : (vectors : List (List ℕ)) → map length (cons_option (vector_of value) vectors) ≡ cons_option (vector_width kind) (map length vectors)
   fine : (partition : List Value) → list_all is_partition_value partition ≡ true → list_all is_partition_value (cond (is_partition kind) (value ∷ partition) partition) ≡ true
+  cell : (kinds : List Kind) (cells : List Value) → are_cell_values kinds cells ≡ true →
+      are_cell_values (cond (is_cell kind) (kind ∷ kinds) kinds) (cond (is_cell kind) (value ∷ cells) cells) ≡ true
 
-kept : (kind : Kind) (rowid : ℤ) (value : Value) → is_metadata kind ≡ false → is_auxiliary kind ≡ false → is_valid_value kind rowid value ≡ true → IsKept kind rowid value
-kept IntKey rowid value no_metadata no_auxiliary valid =
+kept : (kind : Kind) (rowid : ℤ) (value : Value) → is_valid_value kind rowid value ≡ true → IsKept kind rowid value
+kept IntKey rowid value valid =
     let P : Value → Type 0 = λ v. IsKept IntKey rowid v in
     subst P (sym (number_shape rowid value valid))
-    (record { back = λ id partition vectors own. refl; rest = λ vectors. refl; wide = λ vectors. refl; fine = λ partition all. all })
-kept TextKey rowid value no_metadata no_auxiliary valid =
+    (record { back = λ id kept own. refl; rest = λ vectors. refl; wide = λ vectors. refl; fine = λ partition all. all; cell = λ kinds cells all. all })
+kept TextKey rowid value valid =
     let shape = text_shape value (typed TextKey value (not_null (is_null value) (is_fitting TextKey value) valid)) in
     let P : Value → Type 0 = λ v. IsKept TextKey rowid v in
     subst P (sym shape.1)
-    (record { back = λ id partition vectors own. ap (λ i. Text (id_text i)) (own refl); rest = λ vectors. refl; wide = λ vectors. refl; fine = λ partition all. all })
-kept (Int8Vector width metric) rowid value no_metadata no_auxiliary valid =
+    (record { back = λ id kept own. ap (λ i. Text (id_text i)) (own refl); rest = λ vectors. refl; wide = λ vectors. refl; fine = λ partition all. all; cell = λ kinds cells all. all })
+kept (Int8Vector width metric) rowid value valid =
     let fits = not_null (is_null value) (is_fitting (Int8Vector width metric) value) valid in
     let shape = int8_shape value (typed (Int8Vector width metric) value fits) in
     let same : width ≡ length shape.0 = shaped (Int8Vector width metric) value fits ∙ ap dimensions shape.1 in
     let P : Value → Type 0 = λ v. IsKept (Int8Vector width metric) rowid v in
     subst P (sym shape.1) (record {
-      back = λ id partition vectors own. refl;
+      back = λ id kept own. refl;
       rest = λ vectors. refl;
       wide = λ vectors. ap (λ n. n ∷ map length vectors) (sym same);
       fine = λ partition all. all;
+      cell = λ kinds cells all. all;
     })
-kept (BitVector width) rowid value no_metadata no_auxiliary valid =
+kept (BitVector width) rowid value valid =
     let fits = not_null (is_null value) (is_fitting (BitVector width) value) valid in
     let shape = bits_shape value (typed (BitVector width) value fits) in
     let same : width ≡ 8 * length shape.0 = shaped (BitVector width) value fits ∙ ap dimensions shape.1 in
     let P : Value → Type 0 = λ v. IsKept (BitVector width) rowid v in
     subst P (sym shape.1) (record {
-      back = λ id partition vectors own. refl;
+      back = λ id kept own. refl;
       rest = λ vectors. refl;
       wide = λ vectors. ap (λ n. n ∷ map length vectors) (eighth width (length shape.0) same);
       fine = λ partition all. all;
+      cell = λ kinds cells all. all;
     })
   where
     eighth : (bits bytes : ℕ) → bits ≡ 8 * bytes → bytes ≡ bits / 8
     eighth bits bytes e = omega (arith, e)
-kept IntPartition rowid value no_metadata no_auxiliary valid =
+kept IntPartition rowid value valid =
     let shape = int_shape value (typed IntPartition value (not_null (is_null value) (is_fitting IntPartition value) valid)) in
     let P : Value → Type 0 = λ v. IsKept IntPartition rowid v in
     subst P (sym shape.1)
-    (record { back = λ id partition vectors own. refl; rest = λ vectors. refl; wide = λ vectors. refl; fine = λ partition all. and_from _ _ refl all })
-kept TextPartition rowid value no_metadata no_auxiliary valid =
+    (record { back = λ id kept own. refl; rest = λ vectors. refl; wide = λ vectors. refl; fine = λ partition all. and_from _ _ refl all; cell = λ kinds cells all. all })
+kept TextPartition rowid value valid =
     let shape = text_shape value (typed TextPartition value (not_null (is_null value) (is_fitting TextPartition value) valid)) in
     let P : Value → Type 0 = λ v. IsKept TextPartition rowid v in
     subst P (sym shape.1)
-    (record { back = λ id partition vectors own. refl; rest = λ vectors. refl; wide = λ vectors. refl; fine = λ partition all. and_from _ _ refl all })
-kept IntMeta rowid value no_metadata no_auxiliary valid = absurd cc
-kept TextMeta rowid value no_metadata no_auxiliary valid = absurd cc
-kept BoolMeta rowid value no_metadata no_auxiliary valid = absurd cc
-kept IntAux rowid value no_metadata no_auxiliary valid = absurd cc
-kept TextAux rowid value no_metadata no_auxiliary valid = absurd cc
-kept BlobAux rowid value no_metadata no_auxiliary valid = absurd cc
+    (record { back = λ id kept own. refl; rest = λ vectors. refl; wide = λ vectors. refl; fine = λ partition all. and_from _ _ refl all; cell = λ kinds cells all. all })
+kept IntMeta rowid value valid =
+    let none = no_vector IntMeta value refl valid in
+    record {
+      back = λ id kept own. refl;
+      rest = λ vectors. ap (λ (o : Option (List ℕ)). cons_option o vectors) none;
+      wide = λ vectors. ap (λ (o : Option (List ℕ)). map length (cons_option o vectors)) none;
+      fine = λ partition all. all;
+      cell = λ kinds cells all. and_from _ _ valid all;
+    }
+kept TextMeta rowid value valid =
+    let none = no_vector TextMeta value refl valid in
+    record {
+      back = λ id kept own. refl;
+      rest = λ vectors. ap (λ (o : Option (List ℕ)). cons_option o vectors) none;
+      wide = λ vectors. ap (λ (o : Option (List ℕ)). map length (cons_option o vectors)) none;
+      fine = λ partition all. all;
+      cell = λ kinds cells all. and_from _ _ valid all;
+    }
+kept BoolMeta rowid value valid =
+    let none = no_vector BoolMeta value refl valid in
+    record {
+      back = λ id kept own. refl;
+      rest = λ vectors. ap (λ (o : Option (List ℕ)). cons_option o vectors) none;
+      wide = λ vectors. ap (λ (o : Option (List ℕ)). map length (cons_option o vectors)) none;
+      fine = λ partition all. all;
+      cell = λ kinds cells all. and_from _ _ valid all;
+    }
+kept IntAux rowid value valid =
+    let none = no_vector IntAux value refl valid in
+    record {
+      back = λ id kept own. refl;
+      rest = λ vectors. ap (λ (o : Option (List ℕ)). cons_option o vectors) none;
+      wide = λ vectors. ap (λ (o : Option (List ℕ)). map length (cons_option o vectors)) none;
+      fine = λ partition all. all;
+      cell = λ kinds cells all. and_from _ _ valid all;
+    }
+kept TextAux rowid value valid =
+    let none = no_vector TextAux value refl valid in
+    record {
+      back = λ id kept own. refl;
+      rest = λ vectors. ap (λ (o : Option (List ℕ)). cons_option o vectors) none;
+      wide = λ vectors. ap (λ (o : Option (List ℕ)). map length (cons_option o vectors)) none;
+      fine = λ partition all. all;
+      cell = λ kinds cells all. and_from _ _ valid all;
+    }
+kept BlobAux rowid value valid =
+    let none = no_vector BlobAux value refl valid in
+    record {
+      back = λ id kept own. refl;
+      rest = λ vectors. ap (λ (o : Option (List ℕ)). cons_option o vectors) none;
+      wide = λ vectors. ap (λ (o : Option (List ℕ)). map length (cons_option o vectors)) none;
+      fine = λ partition all. all;
+      cell = λ kinds cells all. and_from _ _ valid all;
+    }
+
+-- a vector that a column can hold is as wide as the column
+pub value-width : (kind : Kind) (rowid : ℤ) (value : Value) (vector : List ℕ) → is_valid_value kind rowid value ≡ true → vector_of value ≡ Some vector → vector_width kind ≡ Some (length vector)
+value-width kind rowid value vector valid own =
+    by_width (vector_width kind) (ap (λ (o : Option (List ℕ)). map length (cons_option o [])) (sym own) ∙ (kept kind rowid value valid).wide [])
+  where
+    by_width : (o : Option ℕ) → length vector ∷ [] ≡ cons_option o [] → o ≡ Some (length vector)
+    by_width None e = absurd cc
+    by_width (Some w) e = let same : w ≡ length vector = cc in ap Some same
 
 -- ---- one key at most
 
@@ -202,104 +310,115 @@ no_id_behind column columns few text = no_text_key columns (keys_behind column c
 -- ---- the values again
 
 -- without a text key the id is not asked for
-value_any_id : (kind : Kind) (rowid : ℤ) (a b : Option (List ℕ)) (partition : List Value) (vectors : List (List ℕ)) → is_text_key kind ≡ false →
-    woven_value kind rowid a partition vectors ≡ woven_value kind rowid b partition vectors
-value_any_id TextKey rowid a b partition vectors no_text = absurd cc
-value_any_id IntKey rowid a b partition vectors no_text = refl
-value_any_id (Int8Vector width metric) rowid a b partition vectors no_text = refl
-value_any_id (BitVector width) rowid a b partition vectors no_text = refl
-value_any_id IntPartition rowid a b partition vectors no_text = refl
-value_any_id TextPartition rowid a b partition vectors no_text = refl
-value_any_id IntMeta rowid a b partition vectors no_text = refl
-value_any_id TextMeta rowid a b partition vectors no_text = refl
-value_any_id BoolMeta rowid a b partition vectors no_text = refl
-value_any_id IntAux rowid a b partition vectors no_text = refl
-value_any_id TextAux rowid a b partition vectors no_text = refl
-value_any_id BlobAux rowid a b partition vectors no_text = refl
+value_any_id : (kind : Kind) (rowid : ℤ) (a b : Option (List ℕ)) (kept : KeptValues) → is_text_key kind ≡ false → woven_value kind rowid a kept ≡ woven_value kind rowid b kept
+value_any_id IntKey rowid a b kept no_text = refl
+value_any_id TextKey rowid a b kept no_text = absurd cc
+value_any_id (Int8Vector width metric) rowid a b kept no_text = refl
+value_any_id (BitVector width) rowid a b kept no_text = refl
+value_any_id IntPartition rowid a b kept no_text = refl
+value_any_id TextPartition rowid a b kept no_text = refl
+value_any_id IntMeta rowid a b kept no_text = refl
+value_any_id TextMeta rowid a b kept no_text = refl
+value_any_id BoolMeta rowid a b kept no_text = refl
+value_any_id IntAux rowid a b kept no_text = refl
+value_any_id TextAux rowid a b kept no_text = refl
+value_any_id BlobAux rowid a b kept no_text = refl
 
-any_id : (columns : List Column) (rowid : ℤ) (a b : Option (List ℕ)) (partition : List Value) (vectors : List (List ℕ)) → has_text_key columns ≡ false →
-    woven columns rowid a partition vectors ≡ woven columns rowid b partition vectors
-any_id [] rowid a b partition vectors no_text = refl
-any_id (column ∷ columns) rowid a b partition vectors no_text =
+any_id : (columns : List Column) (rowid : ℤ) (a b : Option (List ℕ)) (kept : KeptValues) → has_text_key columns ≡ false → woven columns rowid a kept ≡ woven columns rowid b kept
+any_id [] rowid a b kept no_text = refl
+any_id (column ∷ columns) rowid a b kept no_text =
     ap₂ (λ (x : Value) (xs : List Value). x ∷ xs)
-    (value_any_id column.kind rowid a b partition vectors (or_first (is_text_key column.kind) (has_text_key columns) no_text))
-    (any_id columns rowid a b (past (is_partition column.kind) partition) (past (is_vector column.kind) vectors) (or_second (is_text_key column.kind) (has_text_key columns) no_text))
+    (value_any_id column.kind rowid a b kept (or_first (is_text_key column.kind) (has_text_key columns) no_text))
+    (any_id columns rowid a b (behind column.kind kept) (or_second (is_text_key column.kind) (has_text_key columns) no_text))
 
 past_part : (b : Bool) (x : Value) (xs : List Value) → past b (cond b (x ∷ xs) xs) ≡ xs
 past_part true x xs = refl
 past_part false x xs = refl
 
-kept_first : (column : Column) (columns : List Column) (rowid : ℤ) (value : Value) (values : List Value) → has_some is_metadata (column ∷ columns) ≡ false →
-    has_some is_auxiliary (column ∷ columns) ≡ false → are_valid_values (column ∷ columns) rowid (value ∷ values) ≡ true → IsKept column.kind rowid value
-kept_first column columns rowid value values no_metadata no_auxiliary valid =
-    kept column.kind rowid value (or_first (is_metadata column.kind) (has_some is_metadata columns) no_metadata)
-    (or_first (is_auxiliary column.kind) (has_some is_auxiliary columns) no_auxiliary) (and_parts (is_valid_value column.kind rowid value) (are_valid_values columns rowid values) valid).0
+kept_first : (column : Column) (columns : List Column) (rowid : ℤ) (value : Value) (values : List Value) → are_valid_values (column ∷ columns) rowid (value ∷ values) ≡ true →
+    IsKept column.kind rowid value
+kept_first column columns rowid value values valid = kept column.kind rowid value (and_parts (is_valid_value column.kind rowid value) (are_valid_values columns rowid values) valid).0
 
-woven_again : (columns : List Column) (rowid : ℤ) (values : List Value) → has_some is_metadata columns ≡ false → has_some is_auxiliary columns ≡ false → count_of is_key columns ≤ 1 →
-    are_valid_values columns rowid values ≡ true → woven columns rowid (id_in columns values) (partition_of columns values) (vectors_of values) ≡ values
-woven_again [] rowid [] no_metadata no_auxiliary few valid = refl
-woven_again [] rowid (value ∷ values) no_metadata no_auxiliary few valid = absurd cc
-woven_again (column ∷ columns) rowid [] no_metadata no_auxiliary few valid = absurd cc
-woven_again (column ∷ columns) rowid (value ∷ values) no_metadata no_auxiliary few valid =
-    let one = kept_first column columns rowid value values no_metadata no_auxiliary valid in
+-- what is left behind a column is what is kept of the values behind its own
+behind_kept : (kind : Kind) (value : Value) (kept : KeptValues) → past (is_vector kind) (cons_option (vector_of value) kept.vectors) ≡ kept.vectors → behind kind (with_kept kind value kept) ≡ kept
+behind_kept kind value kept vectors =
+    ap₂ (λ (p c : List Value). kept_with p (past (is_vector kind) (cons_option (vector_of value) kept.vectors)) c) (past_part (is_partition kind) value kept.partition) (past_part (is_cell kind) value kept.cells)
+    ∙ ap (λ (v : List (List ℕ)). kept_with kept.partition v kept.cells) vectors
+  where
+    kept_with : List Value → List (List ℕ) → List Value → KeptValues
+    kept_with p v c = record { partition = p; vectors = v; cells = c }
+
+woven_again : (columns : List Column) (rowid : ℤ) (values : List Value) → count_of is_key columns ≤ 1 → are_valid_values columns rowid values ≡ true →
+    woven columns rowid (id_in columns values) (kept_of columns values) ≡ values
+woven_again [] rowid [] few valid = refl
+woven_again [] rowid (value ∷ values) few valid = absurd cc
+woven_again (column ∷ columns) rowid [] few valid = absurd cc
+woven_again (column ∷ columns) rowid (value ∷ values) few valid =
+    let one = kept_first column columns rowid value values valid in
     let id = id_in (column ∷ columns) (value ∷ values) in
-    let partition = partition_of columns values in
-    let vectors = vectors_of values in
-    let rest = woven_again columns rowid values (or_second (is_metadata column.kind) (has_some is_metadata columns) no_metadata)
-    (or_second (is_auxiliary column.kind) (has_some is_auxiliary columns) no_auxiliary) (fewer_keys column columns few)
-    (and_parts (is_valid_value column.kind rowid value) (are_valid_values columns rowid values) valid).1 in
+    let others = kept_of columns values in
+    let rest = woven_again columns rowid values (fewer_keys column columns few) (and_parts (is_valid_value column.kind rowid value) (are_valid_values columns rowid values) valid).1 in
     ap₂ (λ (x : Value) (xs : List Value). x ∷ xs)
-    (one.back id partition vectors (λ text. own (is_text_key column.kind) text))
-    (ap₂ (λ (p : List Value) (v : List (List ℕ)). woven columns rowid id p v) (past_part (is_partition column.kind) value partition) (one.rest vectors)
-    ∙ same_rest (is_text_key column.kind) (no_id_behind column columns few)
-    ∙ rest)
+    (one.back id others (λ text. own (is_text_key column.kind) text))
+    (ap (λ (k : KeptValues). woven columns rowid id k) (behind_kept column.kind value others (one.rest others.vectors)) ∙ same_rest (is_text_key column.kind) (no_id_behind column columns few) ∙ rest)
   where
     own : (b : Bool) → b ≡ true → (if b then text_in value else id_in columns values) ≡ text_in value
     own true e = refl
     own false e = absurd cc
 
     same_rest : (b : Bool) → (b ≡ true → has_text_key columns ≡ false) →
-        woven columns rowid (if b then text_in value else id_in columns values) (partition_of columns values) (vectors_of values)
-        ≡ woven columns rowid (id_in columns values) (partition_of columns values) (vectors_of values)
-    same_rest true none = any_id columns rowid (text_in value) (id_in columns values) (partition_of columns values) (vectors_of values) (none refl)
+        woven columns rowid (if b then text_in value else id_in columns values) (kept_of columns values) ≡ woven columns rowid (id_in columns values) (kept_of columns values)
+    same_rest true none = any_id columns rowid (text_in value) (id_in columns values) (kept_of columns values) (none refl)
     same_rest false none = refl
 
--- What is kept of a row's values gives them back, where no column is of metadata or auxiliary.
-pub woven-back : (columns : List Column) (rowid : ℤ) (values : List Value) → has_some is_metadata columns ≡ false → has_some is_auxiliary columns ≡ false →
-    nat_lt 1 (count_of is_key columns) ≡ false → are_valid_values columns rowid values ≡ true →
-    woven columns rowid (id_in columns values) (partition_of columns values) (vectors_of values) ≡ values
-woven-back columns rowid values no_metadata no_auxiliary few valid =
+-- What is kept of a row's values gives them back.
+pub woven-back : (columns : List Column) (rowid : ℤ) (values : List Value) → nat_lt 1 (count_of is_key columns) ≡ false → are_valid_values columns rowid values ≡ true →
+    woven columns rowid (id_in columns values) (kept_of columns values) ≡ values
+woven-back columns rowid values few valid =
     let keys = ltb-false 1 (count_of is_key columns) few in
-    woven_again columns rowid values no_metadata no_auxiliary (omega (arith, keys)) valid
+    woven_again columns rowid values (omega (arith, keys)) valid
 
 -- ---- partition values
 
 -- partition values are numbers and texts
-pub partition-values : (columns : List Column) (rowid : ℤ) (values : List Value) → has_some is_metadata columns ≡ false → has_some is_auxiliary columns ≡ false →
-    are_valid_values columns rowid values ≡ true → list_all is_partition_value (partition_of columns values) ≡ true
-partition-values [] rowid [] no_metadata no_auxiliary valid = refl
-partition-values [] rowid (value ∷ values) no_metadata no_auxiliary valid = absurd cc
-partition-values (column ∷ columns) rowid [] no_metadata no_auxiliary valid = absurd cc
-partition-values (column ∷ columns) rowid (value ∷ values) no_metadata no_auxiliary valid =
-    (kept_first column columns rowid value values no_metadata no_auxiliary valid).fine (partition_of columns values)
-    (partition-values columns rowid values (or_second (is_metadata column.kind) (has_some is_metadata columns) no_metadata)
-    (or_second (is_auxiliary column.kind) (has_some is_auxiliary columns) no_auxiliary)
-    (and_parts (is_valid_value column.kind rowid value) (are_valid_values columns rowid values) valid).1)
+pub partition-values : (columns : List Column) (rowid : ℤ) (values : List Value) → are_valid_values columns rowid values ≡ true → list_all is_partition_value (partition_of columns values) ≡ true
+partition-values [] rowid [] valid = refl
+partition-values [] rowid (value ∷ values) valid = absurd cc
+partition-values (column ∷ columns) rowid [] valid = absurd cc
+partition-values (column ∷ columns) rowid (value ∷ values) valid =
+    (kept_first column columns rowid value values valid).fine (partition_of columns values)
+    (partition-values columns rowid values (and_parts (is_valid_value column.kind rowid value) (are_valid_values columns rowid values) valid).1)
+
+-- ---- cells
+
+-- cells hold values of their columns' kinds
+pub cells-fit : (columns : List Column) (rowid : ℤ) (values : List Value) → are_valid_values columns rowid values ≡ true → are_cell_values (kinds_of columns) (cells_of columns values) ≡ true
+cells-fit [] rowid [] valid = refl
+cells-fit [] rowid (value ∷ values) valid = absurd cc
+cells-fit (column ∷ columns) rowid [] valid = absurd cc
+cells-fit (column ∷ columns) rowid (value ∷ values) valid =
+    (kept_first column columns rowid value values valid).cell (kinds_of columns) (cells_of columns values)
+    (cells-fit columns rowid values (and_parts (is_valid_value column.kind rowid value) (are_valid_values columns rowid values) valid).1)
+
+-- each kind is one of a column that has cells
+pub all_cells : (columns : List Column) → list_all is_cell (kinds_of columns) ≡ true
+all_cells [] = refl
+all_cells (column ∷ columns) = by_test (is_cell column.kind) refl (all_cells columns) where
+  by_test : (b : Bool) → is_cell column.kind ≡ b → list_all is_cell (kinds_of columns) ≡ true → list_all is_cell (cond b (column.kind ∷ kinds_of columns) (kinds_of columns)) ≡ true
+  by_test true e rest = and_from _ _ e rest
+  by_test false e rest = rest
 
 -- ---- widths
 
 -- each vector is as wide as its column
-pub widths-fit : (columns : List Column) (rowid : ℤ) (values : List Value) → has_some is_metadata columns ≡ false → has_some is_auxiliary columns ≡ false →
-    are_valid_values columns rowid values ≡ true → map length (vectors_of values) ≡ widths_of columns
-widths-fit [] rowid [] no_metadata no_auxiliary valid = refl
-widths-fit [] rowid (value ∷ values) no_metadata no_auxiliary valid = absurd cc
-widths-fit (column ∷ columns) rowid [] no_metadata no_auxiliary valid = absurd cc
-widths-fit (column ∷ columns) rowid (value ∷ values) no_metadata no_auxiliary valid =
-    (kept_first column columns rowid value values no_metadata no_auxiliary valid).wide (vectors_of values)
+pub widths-fit : (columns : List Column) (rowid : ℤ) (values : List Value) → are_valid_values columns rowid values ≡ true → map length (vectors_of values) ≡ widths_of columns
+widths-fit [] rowid [] valid = refl
+widths-fit [] rowid (value ∷ values) valid = absurd cc
+widths-fit (column ∷ columns) rowid [] valid = absurd cc
+widths-fit (column ∷ columns) rowid (value ∷ values) valid =
+    (kept_first column columns rowid value values valid).wide (vectors_of values)
     ∙ ap (λ (widths : List ℕ). cons_option (vector_width column.kind) widths)
-    (widths-fit columns rowid values (or_second (is_metadata column.kind) (has_some is_metadata columns) no_metadata)
-    (or_second (is_auxiliary column.kind) (has_some is_auxiliary columns) no_auxiliary)
-    (and_parts (is_valid_value column.kind rowid value) (are_valid_values columns rowid values) valid).1)
+    (widths-fit columns rowid values (and_parts (is_valid_value column.kind rowid value) (are_valid_values columns rowid values) valid).1)
 
 vectors_step : (column : Column) (columns : List Column) → count_of is_vector (column ∷ columns) ≡ one_if (is_vector column.kind) + count_of is_vector columns
 vectors_step column columns = sum_by-cons (λ (c : Column). one_if (is_vector c.kind)) column columns

@@ -5,7 +5,7 @@ use Rattle.vec_base.specs.declared.refusal.Refusal.{Refusal}
 use Rattle.vec_base.specs.declared.value.Value.{Value}
 use Rattle.row_model.specs.Change.{assigned, keyed, spent, taken_id, taken_rowid}
 use Rattle.row_model.specs.Limits.{over_rows}
-use Rattle.row_model.specs.Valid.{is_fitting}
+use Rattle.row_chunks.specs.Cells.{is_cell_value}
 use Rattle.row_model.specs.declared.row.Row.{Row}
 use Rattle.row_model.specs.declared.row.Table.{Table}
 use Rattle.row_model.specs.declared.schema.Column.{Column}
@@ -15,10 +15,11 @@ use Rattle.slot_alloc.specs.declared.place.Place.{Place}
 use Rattle.shadow_records.specs.PlacedTables.{PlacedRow, PlacedTable, first_in, partition_of, row_at}
 use Rattle.table_version.specs.PlacedRows.{table_with}
 
--- One value for each column, of its type, as wide as the column, and not too long. An integer key may have any number: it becomes the rowid.
+-- One value for each column, of its type, as wide as the column, and not too long; NULL in auxiliary columns alone. An integer key may have any number: it becomes
+-- the rowid.
 abbrev pub are_fitting : List Column → List Value → Bool
 are_fitting [] [] = true
-are_fitting (column ∷ columns) (value ∷ values) = is_fitting column.kind value && are_fitting columns values
+are_fitting (column ∷ columns) (value ∷ values) = is_cell_value column.kind value && are_fitting columns values
 are_fitting [] (value ∷ values) = false
 are_fitting (column ∷ columns) [] = false
 

@@ -1,18 +1,12 @@
 -- The state of a table with places, and where it may differ from the one that it was shared from.
 use Rattle.std.specs.Prelude.{◌≡◌, ℕ, ℤ, pos, false, List, [], find, Option}
 use Rattle.chunk_slots.specs.Slots.{UsedSlot, vectors_of}
-use Rattle.row_model.specs.Schemas.{has_some, is_auxiliary, is_metadata}
 use Rattle.row_model.specs.declared.schema.Column.{Column}
 use Rattle.row_model.specs.declared.schema.Schema.{Schema}
 use Rattle.row_store.specs.StoredRows.{has_text, is_above}
 use Rattle.row_store.specs.Touches.{Touches, is_touched_place, is_touched_row}
 use Rattle.shadow_records.specs.PlacedTables.{PlacedRow, PlacedTable, IsPlaced, row_at, row_of}
 use Rattle.table_version.specs.Kept.{id_in}
-
--- no column is one of metadata, and none is auxiliary
-pub record IsPlainSchema (schema : Schema) : Type 0 where
-  pub no_metadata : has_some is_metadata schema.columns ≡ false
-  pub no_auxiliary : has_some is_auxiliary schema.columns ≡ false
 
 -- the table, and the rowids and places that were touched since it was shared
 pub record VersionState : Type 0 where

@@ -1,8 +1,10 @@
-//! What columns say of the vectors of a row.
+//! What columns say of the vectors and of the cells of a row.
 ghost use Rattle.std.specs.Prelude.{◌≡◌, ◌++◌, ◌<◌, ◌^◌, IfOk, OnOk};
+ghost use Rattle.row_chunks.specs.Cells.{kinds_of};
 ghost use Rattle.table_version.specs.Kept.{vector_width, widths_of};
 ghost use Rattle.table_version.specs.inner.StoredBytes.{total_width};
 
+use row_chunks::is_cell;
 use row_model::{Column, Kind};
 use std::alloc::Global;
 use vec_base::{List, Memory};
@@ -38,6 +40,28 @@ pub(crate) fn widths_of(alloc: Global, columns: &[Column]) -> Result<List<u16>, 
     let mut widths = List::new(alloc);
     add_widths(columns, &mut widths)?;
     Ok(widths)
+}
+
+/// Adds the kind of each column that has cells.
+fn add_kinds(columns: &[Column], kinds: &mut List<Kind>) -> Result<(), Memory>
+    ensures { OnOk result (kinds.new ≡ kinds.old ++ kinds_of columns.now) }
+{
+    let Some((column, columns)) = columns.split_first() else {
+        return Ok(());
+    };
+    if is_cell(column.kind) {
+        kinds.push(column.kind)?;
+    }
+    add_kinds(columns, kinds)
+}
+
+/// The kinds of the columns that have cells.
+pub(crate) fn kinds_of(alloc: Global, columns: &[Column]) -> Result<List<Kind>, Memory>
+    ensures { IfOk result (λ kinds. kinds ≡ kinds_of columns.now) }
+{
+    let mut kinds = List::new(alloc);
+    add_kinds(columns, &mut kinds)?;
+    Ok(kinds)
 }
 
 /// The bytes of the vectors of a row.

@@ -1,49 +1,22 @@
-//! What is read of a column that has no vectors.
-ghost use Rattle.std.specs.Prelude.{◌≡◌};
-ghost use Rattle.table_version.specs.Fields.{plain_value, value_shown};
-ghost use Rattle.table_version.specs.inner.Weaving.{next_value, past};
+//! Partition values as they are read.
+ghost use Rattle.std.specs.Prelude.{◌≡◌, true};
+ghost use Rattle.row_chunks.specs.Fields.{value_shown};
+ghost use Rattle.table_version.specs.Kept.{is_partition_value};
 
+use row_chunks::Field;
 use vec_base::Value;
 
-/// A value that is lent.
-#[derive(Clone, Copy, Debug)]
-pub enum Field<'a> {
-    Null,
-    Int(i64),
-    Text(&'a str),
-    Blob(&'a [u8]),
-}
-
-/// A value as it is shown. A vector is shown as its bytes.
-fn shown(value: &Value) -> Field<'_>
-    ensures { value_shown result ≡ plain_value value.now }
+/// A partition value as it is read.
+pub(crate) fn shown(value: &Value) -> Field<'_>
+    requires { is_partition_value value.now ≡ true }
+    ensures { value_shown result ≡ value.now }
 {
     match value {
-        Value::Null => Field::Null,
         Value::Int(number) => Field::Int(*number),
         Value::Text(text) => Field::Text(text.as_text()),
-        Value::Blob(bytes) => Field::Blob(bytes.as_slice()),
-        Value::Int8(bytes) => Field::Blob(bytes.as_slice()),
-        Value::Bits(bytes) => Field::Blob(bytes.as_slice()),
-    }
-}
-
-/// The first of these values as it is shown.
-pub(crate) fn first_shown(values: &[Value]) -> Field<'_>
-    ensures { value_shown result ≡ plain_value (next_value values.now) }
-{
-    match values {
-        [] => Field::Null,
-        [value, ..] => shown(value),
-    }
-}
-
-/// The values without the first, where that was taken.
-pub(crate) fn past(taken: bool, values: &[Value]) -> &[Value]
-    ensures { result.now ≡ past taken values.now }
-{
-    match values {
-        [_, others @ ..] if taken => others,
-        _ => values,
+        Value::Null => unreachable!(),
+        Value::Blob(_) => unreachable!(),
+        Value::Int8(_) => unreachable!(),
+        Value::Bits(_) => unreachable!(),
     }
 }

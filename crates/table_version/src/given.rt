@@ -2,6 +2,7 @@
 ghost use Rattle.std.specs.Prelude.{◌≡◌, ◌++◌, ◌<◌, ◌^◌, sum_by, IfOk, OnOk};
 ghost use Rattle.std.specs.List.{AllByRecursion};
 ghost use Rattle.std.specs.Option.{option_copied};
+ghost use Rattle.vec_base.specs.Representable.{IsRepresentable};
 ghost use Rattle.row_model.specs.RepresentableStatements.{AreRepresentable};
 ghost use Rattle.row_model.specs.Values.{side_bytes};
 ghost use Rattle.shadow_records.specs.PlacedTables.{partition_of};
@@ -69,7 +70,7 @@ pub(crate) fn partition_values(
 }
 
 /// The bytes of a text or a blob.
-fn side_bytes(value: &Value) -> u64
+pub(crate) fn side_bytes(value: &Value) -> u64
     ensures { result ≡ side_bytes value.now }
 {
     match value {
@@ -92,6 +93,13 @@ pub(crate) fn all_side_bytes(values: &[Value]) -> u64
 }
 
 /// Types hold no other values than representable ones. The call does nothing: its clause is all that it gives.
+pub(crate) fn value_representable(value: &Value)
+    ensures { IsRepresentable value.now }
+{
+    value.representable();
+}
+
+/// The same of several. The call does nothing: its clause is all that it gives.
 fn values_representable(values: &[Value])
     ensures { AreRepresentable values.now }
 {

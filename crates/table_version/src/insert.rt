@@ -7,6 +7,7 @@ ghost use Rattle.row_model.specs.ColumnNames.{has_text_key};
 ghost use Rattle.row_model.specs.RefusalOrder.{first, when};
 ghost use Rattle.row_model.specs.Values.{side_bytes};
 ghost use Rattle.chunk_slots.specs.Slots.{vectors_of};
+ghost use Rattle.row_chunks.specs.Cells.{are_cell_values, cells_of, kinds_of};
 ghost use Rattle.row_store.specs.StoredRows.{row_of, row_with_id};
 ghost use Rattle.row_store.specs.Touches.{HasSameShape, IsPut, KeepsOrigin as KeepsStored};
 ghost use Rattle.shadow_records.specs.PlacedTables.{partition_of, plain, plain_rows};
@@ -17,10 +18,10 @@ ghost use Rattle.table_version.specs.inner.Refusing.{first_of, given_taken, take
 
 use crate::TableVersion;
 use crate::given::{all_side_bytes, list_representable, partition_values, text_id};
-use row_model::{Column, over_rows};
+use row_model::{Column, assigned, larger, over_rows, spent};
 use row_store::RowStore;
 use std::alloc::Global;
-use vec_base::{LAST_ROWID, List, Memory, Refusal, Value};
+use vec_base::{List, Memory, Refusal, Value};
 
 /// The refusal of a given rowid that is there.
 #[tactic(auto, using(crate::proofs::InsertLaws::shown_some))]
@@ -52,39 +53,6 @@ fn taken_text(rows: &RowStore, id: Option<&str>) -> Option<Refusal>
     }
 }
 
-/// The refusal where a rowid is to be assigned and none is left.
-fn spent(top: &i64, rowid: &Option<i64>) -> Option<Refusal>
-    ensures { result ≡ first (spent top.now rowid.now) }
-{
-    match rowid {
-        Some(_) => None,
-        None => {
-            if *top < LAST_ROWID {
-                None
-            } else {
-                Some(Refusal::RowidsSpent)
-            }
-        }
-    }
-}
-
-/// The rowid of a row: the one that is given, or the one above the top.
-fn assigned(top: &i64, rowid: &Option<i64>) -> i64
-    ensures { result ≡ assigned top.now rowid.now }
-{
-    match rowid {
-        Some(rowid) => *rowid,
-        None => { if *top < LAST_ROWID { *top + 1 } else { *top } }
-    }
-}
-
-/// The greater of two.
-fn larger(a: &i64, b: &i64) -> i64
-    ensures { result ≡ larger a.now b.now }
-{
-    if *a < *b { *b } else { *a }
-}
-
 /// The first of what refuses values beside some rows.
 fn first_refusal(
     rows: &RowStore,
@@ -103,7 +71,7 @@ fn first_refusal(
         .or(over_rows(rows.len() + 1))
 }
 
-/// A row with these values takes its place. Answers the bytes of its texts. After want of memory the rows are as before.
+/// A row with these values takes its place. Answers the bytes of its texts and blobs. After want of memory the rows are as before.
 fn put_values(
     rows: &mut RowStore,
     alloc: Global,
@@ -114,17 +82,26 @@ fn put_values(
     requires fresh { row_of rowid.now rows.old.rows ≡ None }
     requires own_id { (text : Seq ℕ) → id_in columns.now values.now ≡ Some text → row_with_id text rows.old.rows ≡ None }
     requires widths { map length (vectors_of values.now) ≡ rows.old.widths }
+    requires kinds { kinds_of columns.now ≡ rows.old.kinds }
+    requires cells { are_cell_values rows.old.kinds (cells_of columns.now values.now) ≡ true }
     requires few { length rows.old.rows < 2 ^ 64 - 1 }
     requires short { sum_by side_bytes values.now < 2 ^ 64 }
     ensures kept { OnErr result (rows.new.rows ≡ rows.old.rows) }
-    ensures put { OnOk result (IsPut rows.old rows.new rowid.now (id_in columns.now values.now) (partition_of columns.now values.now) (vectors_of values.now)) }
+    ensures put { OnOk result (IsPut rows.old rows.new rowid.now (id_in columns.now values.now) (partition_of columns.now values.now) (vectors_of values.now) (cells_of columns.now values.now)) }
     ensures sides { IfOk result (λ bytes. bytes ≡ sum_by side_bytes values.now) }
     ensures shape { HasSameShape rows.old rows.new }
     ensures origin { KeepsStored rows.old rows.new }
 {
     let id = text_id(columns.as_slice(), values.as_slice());
     let partition = partition_values(alloc, columns.as_slice(), values.as_slice())?;
-    rows.put(alloc, rowid, id, &partition, values.as_slice())?;
+    rows.put(
+        alloc,
+        rowid,
+        id,
+        &partition,
+        columns.as_slice(),
+        values.as_slice(),
+    )?;
     Ok(all_side_bytes(values.as_slice()))
 }
 

@@ -3,13 +3,15 @@
 
 mod columns;
 mod field;
+mod filter;
 mod given;
 mod insert;
 mod readers;
 mod remove;
 mod row_view;
 mod table;
+mod update;
 
-pub use field::Field;
+pub use row_chunks::Field;
 pub use row_view::RowView;
 pub use table::TableVersion;

@@ -1,10 +1,11 @@
 //! What is read of the rows of a table.
-ghost use Rattle.std.specs.Prelude.{◌≡◌, ℕ, ◌<◌, true, None, IfOk, IfSome, MatchOption, is_some};
+ghost use Rattle.std.specs.Prelude.{◌≡◌, ℕ, ◌<◌, length, true, None, IfOk, IfSome, MatchOption, is_some};
 ghost use Rattle.std.specs.Option.{option_copied, option_map};
 ghost use Rattle.chunk_slots.specs.Slots.{rowid_of as rowid_in_slot, slot_at};
 ghost use Rattle.row_model.specs.Change.{rows_vector_bytes};
 ghost use Rattle.shadow_records.specs.PlacedTables.{first_in, plain_rows, row_at, row_of};
 ghost use Rattle.table_version.specs.Inserting.{partition_in};
+ghost use Rattle.table_version.specs.Kept.{widths_of};
 ghost use Rattle.table_version.specs.Versions.{Follows, next_row, row_with_id, rowid_in, slot_of_row};
 
 use crate::TableVersion;
@@ -41,7 +42,7 @@ impl TableVersion {
     }
 
     /// The row of a rowid.
-    #[tactic(auto, using(crate::proofs::ViewLaws::row_there, crate::proofs::ViewLaws::none_there, crate::proofs::ViewLaws::view_sound))]
+    #[tactic(auto, using(crate::proofs::ViewLaws::row_there, crate::proofs::ViewLaws::none_there))]
     pub fn row(&self, rowid: &i64) -> Option<RowView<'_>>
         ensures row { row_of self.now.table.rows rowid.now ≡ option_map (λ view. view.placed) result }
         ensures columns { IfSome result (λ view. view.columns ≡ self.now.table.schema.columns) }
@@ -58,8 +59,13 @@ impl TableVersion {
     pub fn slots(&self, chunk: u32) -> Option<&Chunk>
         ensures there { is_some result ≡ is_some (first_in self.now.table.rows chunk) }
         ensures slots { IfSome result (λ slots. (slot : ℕ) → slot_at slots.now slot ≡ option_map slot_of_row (row_at self.now.table.rows chunk slot)) }
+        ensures size { IfSome result (λ slots. length slots.now.slots ≡ self.now.table.schema.chunk_size) }
+        ensures widths { IfSome result (λ slots. slots.now.widths ≡ widths_of self.now.table.schema.columns) }
     {
-        self.rows.slots(chunk)
+        match self.rows.slots(chunk) {
+            Some(rows) => Some(rows.slots()),
+            None => None,
+        }
     }
 
     /// The partition values of the rows of a chunk.

@@ -4,16 +4,16 @@ ghost use Rattle.vec_base.specs.Words.{is_name};
 ghost use Rattle.row_model.specs.Change.{rows_side_bytes, rows_vector_bytes};
 ghost use Rattle.row_model.specs.Schemas.{IsValidSchema};
 ghost use Rattle.shadow_records.specs.PlacedTables.{plain_rows};
-ghost use Rattle.table_version.specs.Versions.{IsPlainSchema, empty_table};
+ghost use Rattle.table_version.specs.Versions.{empty_table};
 
-use crate::columns::widths_of;
+use crate::columns::{kinds_of, widths_of};
 use row_model::Schema;
 use row_store::RowStore;
 use std::alloc::Global;
 use std::marker::Model;
 use vec_base::{Memory, Txt};
 
-/// A table without columns of metadata and auxiliary columns, and what was touched since it was shared.
+/// A table with its rows at their places, and what was touched since it was shared.
 #[derive(Drop)]
 pub struct TableVersion {
     pub(crate) name: Txt,
@@ -21,7 +21,7 @@ pub struct TableVersion {
     /// The greatest rowid that the table ever held, or 0.
     pub(crate) top: i64,
     pub(crate) rows: RowStore,
-    /// The bytes of all texts of all rows.
+    /// The bytes of all texts and blobs of all rows.
     pub(crate) side_bytes: u64,
 }
 
@@ -38,15 +38,15 @@ impl Model for TableVersion {
 
 impl TableVersion {
     /// A table without rows.
-    #[tactic(auto, using(crate::proofs::SoundLaws::chunk_shape))]
+    #[tactic(auto, using(crate::proofs::SoundLaws::chunk_shape, crate::proofs::WeavingLaws::all_cells))]
     pub fn new(alloc: Global, name: Txt, schema: Schema) -> Result<TableVersion, Memory>
         requires valid { IsValidSchema schema }
         requires name { is_name name ≡ true }
-        requires plain { IsPlainSchema schema }
         ensures { IfOk result (λ version. version.table ≡ empty_table name schema) }
     {
         let widths = widths_of(alloc, schema.columns.as_slice())?;
-        let rows = RowStore::new(alloc, schema.chunk_size, widths)?;
+        let kinds = kinds_of(alloc, schema.columns.as_slice())?;
+        let rows = RowStore::new(alloc, schema.chunk_size, widths, kinds)?;
         Ok(TableVersion {
             name,
             schema,
@@ -84,7 +84,7 @@ impl TableVersion {
         self.rows.len()
     }
 
-    /// The bytes of all texts of all rows.
+    /// The bytes of all texts and blobs of all rows.
     pub fn side_bytes(&self) -> u64
         ensures { result ≡ rows_side_bytes (plain_rows self.now.table.rows) }
     {

@@ -5,7 +5,7 @@ use Rattle.row_model.specs.Change.{larger}
 use Rattle.row_model.specs.Values.{side_bytes}
 use Rattle.row_store.specs.StoredRows.{row_of}
 use Rattle.table_version.specs.inner.StoredTables.{IsSound}
-use Rattle.table_version.proofs.PutLaws.{IsDone, made_of, made_sound, made_inserted, made_origin, put_fresh, put_own, put_widths, put_few, values_short}
+use Rattle.table_version.proofs.PutLaws.{IsDone, made_of, made_sound, made_inserted, made_origin, put_cells, put_fresh, put_own, put_widths, put_few, values_short}
 use Rattle.table_version.proofs.SoundLaws.{sides_fit}
 use Rattle.table_version.proofs.table.TableVersion.add.Goals as goal
 
@@ -29,6 +29,13 @@ put_values-requires-clause-widths c =
     let number : FitsSigned w64 c.args.made.now = search rules in
     let m = made_of c.args.self.now v.name v.schema v.top v.rows v.side_bytes c.args.made.now c.args.rowid.now c.args.values.now c.self.view_is c.self.invariant c.requires.made c.requires.fits c.requires.none c.list_representable.ensures number in
     put_widths v.name v.schema v.top v.rows v.side_bytes c.args.values.now c.self.invariant m.given.fits
+
+pub put_values-requires-clause-cells : goal.put_values-requires-clause-cells
+put_values-requires-clause-cells c =
+    let v = c.self.inside in
+    let number : FitsSigned w64 c.args.made.now = search rules in
+    let m = made_of c.args.self.now v.name v.schema v.top v.rows v.side_bytes c.args.made.now c.args.rowid.now c.args.values.now c.self.view_is c.self.invariant c.requires.made c.requires.fits c.requires.none c.list_representable.ensures number in
+    put_cells v.name v.schema v.top v.rows v.side_bytes c.args.values.now c.self.invariant m.given.fits
 
 pub put_values-requires-clause-few : goal.put_values-requires-clause-few
 put_values-requires-clause-few c = let v = c.self.inside in put_few v.name v.schema v.top v.rows v.side_bytes c.self.invariant
