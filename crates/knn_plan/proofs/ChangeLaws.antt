@@ -22,12 +22,12 @@ told f given real answer said same answered is = ap f (sym same) ∙ sym answere
 
 -- ---- refusals noted one after another
 
-abbrev noted : List Refusal → List (Bool × ℕ) → List Refusal
+abbrev pub noted : List Refusal → List (Bool × ℕ) → List Refusal
 noted faults [] = faults
 noted faults (t ∷ ts) = noted (faults ++ when t.0 (KnnForm t.1)) ts
 
 -- where none is left, no test holds
-none_noted : (faults : List Refusal) (ts : List (Bool × ℕ)) → noted faults ts ≡ [] → (faults ≡ []) × AllByRecursion (λ t. t.0 ≡ false) ts
+pub none_noted : (faults : List Refusal) (ts : List (Bool × ℕ)) → noted faults ts ≡ [] → (faults ≡ []) × AllByRecursion (λ t. t.0 ≡ false) ts
 none_noted faults [] empty = (empty, tt)
 none_noted faults (t ∷ ts) empty =
     let later = none_noted (faults ++ when t.0 (KnnForm t.1)) ts empty in
