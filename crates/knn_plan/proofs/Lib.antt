@@ -1,4 +1,5 @@
 pub mod ChangeLaws
+pub mod LevelLaws
 pub mod NumberLaws
 pub mod OtherLaws
 pub mod PlanLaws

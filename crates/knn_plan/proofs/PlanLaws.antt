@@ -1,32 +1,31 @@
 -- What a plan for the columns of a table gives.
-use Rattle.std.proofs.Common.{◌≡◌, ℕ, ◌<◌, ◌≤◌, Bool, true, false, List, [], ◌∷◌, refl, sym, ◌∙◌, ap, ap₂, subst, length, get_or, Option, Some, None}
-use Rattle.std.specs.Prelude.{◌&&◌, ◌||◌}
-use Rattle.std.specs.List.{list_all, AllByRecursion}
+use Rattle.std.proofs.Common.{◌≡◌, ℕ, ◌<◌, ◌≤◌, Bool, true, false, cond, if◌then◌else◌, List, [], ◌∷◌, refl, sym, ◌∙◌, ap, subst, arith, length, get_or, Option, Some, None, inl, inr}
+use Rattle.std.specs.Prelude.{◌||◌, is_some, nat_lt, position}
+use Rattle.std.specs.List.{list_any, position_or_len, AllByRecursion}
 use Rattle.std.specs.Option.{option_map}
+use Rattle.std.proofs.lemmas.Bool.{cases_Bool, false≢true, ltb-false}
 use Rattle.std.proofs.lemmas.List.{get_or-map}
 use Rattle.vec_base.specs.declared.limits.TheConstants.{MOST_REPLY_ROWS}
 use Rattle.vec_base.specs.declared.value.Value.{Value}
-use Rattle.row_model.specs.Answer.{Target, or_later, target_in, target_of, vector_of}
-use Rattle.row_model.specs.Check.{some_term}
-use Rattle.row_model.specs.ColumnNames.{is_count, is_distance, is_of, place_of}
+use Rattle.row_model.specs.Answer.{Target, is_point_term, or_later, shape_by, target_in, target_of, vector_of}
+use Rattle.row_model.specs.ColumnNames.{is_of, place_of}
 use Rattle.row_model.specs.inner.ComparableVectors.{IsComparable}
 use Rattle.row_model.specs.Schemas.{has_role, is_same_role, is_vector}
 use Rattle.row_model.specs.Valid.{IsValidTable}
-use Rattle.row_model.specs.Values.{meets, passes, value_at}
+use Rattle.row_model.specs.Values.{value_at}
+use Rattle.row_model.specs.declared.request.Shape.{Shape}
+use Rattle.row_model.specs.declared.request.Shape.TheVariants.{Point, Scan, Nearest}
 use Rattle.row_model.specs.declared.row.Row.{Row}
 use Rattle.row_model.specs.declared.row.Table.{Table}
 use Rattle.row_model.specs.declared.schema.Column.{Column}
-use Rattle.row_model.specs.declared.schema.Place.{Place}
 use Rattle.row_model.specs.declared.schema.Role.{Role}
 use Rattle.row_model.specs.declared.schema.Role.TheVariants.{Key, Vector}
 use Rattle.row_model.specs.declared.statement.Constraint.{Constraint}
 use Rattle.row_model.specs.declared.statement.Test.{Test}
 use Rattle.row_model.specs.declared.statement.Test.TheVariants.{Compare, Member, Match}
-use Rattle.row_model.proofs.BoolLaws.{not_false, or_first, or_second}
 use Rattle.row_model.proofs.SelectLaws.{comparable_rows, few_wanted}
 use Rattle.knn_plan.specs.PlannedColumns.{planned_column, term_column}
 use Rattle.knn_plan.specs.Plans.{IsPlanFor, Planned, PlannedTarget, planned_target}
-use Rattle.knn_plan.specs.TermUses.{is_on_chunks, is_on_rows}
 use Rattle.knn_plan.specs.declared.column.PlannedColumn.{PlannedColumn}
 use Rattle.knn_plan.proofs.NumberLaws.{role_shows, values_of}
 
@@ -114,32 +113,57 @@ target_shows columns plan is planned found row comparable wide =
     subst (λ (p : PlannedColumn). is_of is_vector p.place ≡ true → get_or (values_of is_vector vector_of columns row.values) p.number [] ≡ vector_of (value_at p.place row)) (sym place)
     (λ on. role_shows Vector vector_of columns named.name row [] refl on wide) comparable.column
 
--- ---- terms that nothing has to look at
+-- ---- the shape
 
-elsewhere_or_met : (count distance chunks passed : Bool) → (count || (distance || chunks)) ≡ true → (chunks || (distance || (count || passed))) ≡ true
-elsewhere_or_met count distance true passed some = refl
-elsewhere_or_met count true false passed some = refl
-elsewhere_or_met true false false passed some = refl
-elsewhere_or_met false false false passed some = absurd cc
+-- where some element passes there is a first one
+first_below : {A : Type 0} (test : A → Bool) (xs : List A) → list_any test xs ≡ true → position_or_len test xs < length xs
+first_below test [] some = absurd cc
+first_below test (x ∷ xs) some =
+    elim (cases_Bool (test x)) [
+      | inl here ↦ rw here (omega arith)
+      | inr away ↦
+          let later : list_any test xs ≡ true = sym (ap (λ b. b || list_any test xs) away) ∙ some in
+          let rest = first_below test xs later in
+          rw away (omega (arith, rest))
+    ]
 
-anyway_met : (count distance chunks : Bool) → (chunks || (distance || (count || true))) ≡ true
-anyway_met count distance true = refl
-anyway_met count true false = refl
-anyway_met true false false = refl
-anyway_met false false false = refl
+pub first_found : {A : Type 0} (test : A → Bool) (xs : List A) → list_any test xs ≡ true → is_some (position test xs) ≡ true
+first_found test xs some =
+    let below = first_below test xs some in
+    elim (cases_Bool (nat_lt (position_or_len test xs) (length xs))) [
+      | inl less ↦ ap (λ b. is_some (cond b (Some (position_or_len test xs)) None)) less
+      | inr most ↦ (let above = ltb-false (position_or_len test xs) (length xs) most in absurd (omega (arith, above, below)))
+    ]
 
--- a term that is not tested row by row is on chunks or on distance, or leaves no row out
-met_elsewhere : (place : Place) (test : Test) (value : Value) → is_on_rows place test ≡ false → (is_on_chunks place || (is_distance place || (is_count place || passes test value))) ≡ true
-met_elsewhere place (Compare op constant) value none = elsewhere_or_met (is_count place) (is_distance place) (is_on_chunks place) (passes (Compare op constant) value) (not_false (is_count place || (is_distance place || is_on_chunks place)) none)
-met_elsewhere place (Member values) value none = elsewhere_or_met (is_count place) (is_distance place) (is_on_chunks place) (passes (Member values) value) (not_false (is_count place || (is_distance place || is_on_chunks place)) none)
-met_elsewhere place (Match query) value none = anyway_met (is_count place) (is_distance place) (is_on_chunks place)
+abbrev is_point : Shape → Bool
+is_point Point = true
+is_point _ = false
 
--- Where no term is tested row by row, each row meets all terms but those on chunks and on distance.
-pub rest_met : (columns : List Column) (row : Row) (terms : List Constraint) → some_term columns is_on_rows terms ≡ false →
-    list_all (λ term. is_on_chunks (place_of columns term.column) || (is_distance (place_of columns term.column) || meets columns row term)) terms ≡ true
-rest_met columns row [] none = refl
-rest_met columns row (term ∷ terms) none =
-    let place = place_of columns term.column in
-    ap₂ (λ a b. a && b)
-    (met_elsewhere place term.test (value_at place row) (or_first (is_on_rows place term.test) (some_term columns is_on_rows terms) none))
-    (rest_met columns row terms (or_second (is_on_rows place term.test) (some_term columns is_on_rows terms) none))
+shaped_point : (columns : List Column) (terms : List Constraint) (target : Option Target) (some : Bool) → list_any (is_point_term columns) terms ≡ some → shape_by target columns terms ≡ Point → some ≡ true
+shaped_point columns terms (Some target) some is shaped = absurd (false≢true (ap is_point shaped))
+shaped_point columns terms None true is shaped = refl
+shaped_point columns terms None false is shaped = absurd (false≢true (ap (λ b. is_point (if b then Point else Scan)) (sym is) ∙ ap is_point shaped))
+
+-- a plan by a rowid or key has a term that says which
+pub point_there : (columns : List Column) (plan : Planned) → IsPlanFor columns plan → plan.shape ≡ Point → is_some plan.point ≡ true
+point_there columns plan is point =
+    let terms = plan.select.where_terms in
+    ap is_some is.point
+    ∙ first_found (is_point_term columns) terms (shaped_point columns terms (target_of columns terms) (list_any (is_point_term columns) terms) refl (sym is.shape ∙ point))
+
+abbrev pub is_nearest_shape : Shape → Bool
+is_nearest_shape Nearest = true
+is_nearest_shape _ = false
+
+plain_shape : (columns : List Column) (terms : List Constraint) (some : Bool) → is_nearest_shape (if some then Point else Scan) ≡ false
+plain_shape columns terms true = refl
+plain_shape columns terms false = refl
+
+shaped_nearest : (columns : List Column) (terms : List Constraint) (target : Option Target) → is_some (option_map (planned_target columns) target) ≡ is_nearest_shape (shape_by target columns terms)
+shaped_nearest columns terms None = sym (plain_shape columns terms (list_any (is_point_term columns) terms))
+shaped_nearest columns terms (Some target) = refl
+
+-- a plan has a target exactly where it is one by distance
+pub target_there : (columns : List Column) (plan : Planned) → IsPlanFor columns plan → is_some plan.target ≡ is_nearest_shape plan.shape
+target_there columns plan is =
+    ap is_some is.target ∙ shaped_nearest columns plan.select.where_terms (target_of columns plan.select.where_terms) ∙ ap is_nearest_shape (sym is.shape)
