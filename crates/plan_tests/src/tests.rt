@@ -5,8 +5,8 @@ ghost use Rattle.vec_base.specs.declared.limits.TheConstants.{MOST_TERMS};
 
 use knn_plan::{Plan, check_insert, plan_delete, plan_select, plan_update};
 use row_model::{
-    Assign, Column, Constraint, Delete, Insert, Items, Kind, MOST_COLUMNS, Metric, Order, Schema,
-    Select, Shape, Test, Update,
+    Assign, Column, Constraint, Delete, Insert, Items, Kind, MOST_COLUMNS, Metric, Order, Role,
+    Schema, Select, Shape, Test, Update,
 };
 use std::alloc::Global;
 use std::test::Fail;
@@ -99,6 +99,7 @@ fn a_search_has_its_target(rt: HostRuntime) -> Result<(), Fail> {
     assert!(rt; matches!(target.query, Value::Bits(_)));
     let columns = plan.terms();
     assert!(rt; columns.len() == 3 && columns[0].number == 1);
+    assert!(rt; columns[0].has_role(Role::Metadata));
     Ok(())
 }
 

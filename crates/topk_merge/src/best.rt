@@ -44,6 +44,7 @@ impl Best {
     }
 
     /// Keeps the first of the hits and this one. It takes no memory.
+    #[inline]
     pub fn offer(&mut self, hit: Hit)
         ensures room { self.new.room ≡ self.old.room }
         ensures hits { self.new.hits ≡ take self.old.room (placed is_before hit self.old.hits) }
@@ -99,6 +100,7 @@ impl Best {
 }
 
 // Whether a list of at most `room` hits is full, and the hit comes before none of them.
+#[inline]
 fn is_left_out(hits: &[Hit], room: usize, hit: &Hit) -> bool
     requires fits { length hits.now ≤ room }
     requires sorted { IsSortedBy is_before hits.now }
