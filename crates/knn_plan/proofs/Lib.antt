@@ -3,5 +3,6 @@ pub mod LevelLaws
 pub mod NumberLaws
 pub mod OtherLaws
 pub mod PlanLaws
+pub mod RowidLaws
 pub mod TargetLaws
 pub mod TermLaws

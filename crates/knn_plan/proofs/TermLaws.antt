@@ -18,7 +18,7 @@ use Rattle.row_model.proofs.SelectLaws.{both_empty, when_empty, checked}
 use Rattle.knn_plan.proofs.ChangeLaws.{noted, none_noted}
 
 -- The name is that of a column, and the values are of its type. A MATCH is on vectors, and vectors are in a MATCH alone. Truth values are compared
--- for equality, and auxiliary columns have no IN. A term on distance is a bound beside a MATCH, and one on k an equality.
+-- for equality, and auxiliary columns have no IN and no place beside a MATCH. A term on distance is a bound beside a MATCH, and one on k an equality.
 pub record IsTermFor (columns : List Column) (nearest : Bool) (term : Constraint) : Type 0 where
   pub known : is_unknown (place_of columns term.column) ≡ false
   pub typed : list_all (is_of_type (place_of columns term.column)) (test_values term.test) ≡ true
@@ -27,6 +27,7 @@ pub record IsTermFor (columns : List Column) (nearest : Bool) (term : Constraint
   pub operator : has_untaken_operator (place_of columns term.column) term.test ≡ false
   pub bound : is_beside_bounds nearest (place_of columns term.column) term.test ≡ false
   pub equal : counts_without_equal (place_of columns term.column) term.test ≡ false
+  pub beside : (nearest && is_on_auxiliary (place_of columns term.column) term.test) ≡ false
 
 -- ---- the form rules that speak of each term
 
@@ -36,6 +37,16 @@ record KeepForms (columns : List Column) (nearest : Bool) (terms : List Constrai
   operator : some_term columns has_untaken_operator terms ≡ false
   bound : some_term columns (is_beside_bounds nearest) terms ≡ false
   equal : some_term columns counts_without_equal terms ≡ false
+  beside : (nearest && some_term columns is_on_auxiliary terms) ≡ false
+
+-- a test of a list with an element in front, where another test holds
+beside_first : (n a b : Bool) → (n && (a || b)) ≡ false → (n && a) ≡ false
+beside_first true a b none = or_first a b none
+beside_first false a b none = refl
+
+beside_second : (n a b : Bool) → (n && (a || b)) ≡ false → (n && b) ≡ false
+beside_second true a b none = or_second a b none
+beside_second false a b none = refl
 
 -- the rules behind the first and before those on `distance` and `k`, in their order
 abbrev select_tests : List Column → Select → List (Bool × ℕ)
@@ -63,6 +74,7 @@ forms_kept columns select empty =
       operator = tests.1.1.1.1.1.1.1.0;
       bound = when_empty (some_term columns (is_beside_bounds (is_nearest terms)) terms) (KnnForm DISTANCE_BESIDE_BOUNDS) hidden.0;
       equal = when_empty (some_term columns counts_without_equal terms) (KnnForm COUNT_WITHOUT_EQUAL) hidden.1;
+      beside = tests.1.1.1.1.1.0;
     }
 
 -- ---- the values
@@ -91,6 +103,7 @@ each_fits columns nearest index (term ∷ terms) none keep =
         operator = or_first (has_untaken_operator place term.test) (some_term columns has_untaken_operator terms) keep.operator;
         bound = or_first (is_beside_bounds nearest place term.test) (some_term columns (is_beside_bounds nearest) terms) keep.bound;
         equal = or_first (counts_without_equal place term.test) (some_term columns counts_without_equal terms) keep.equal;
+        beside = beside_first nearest (is_on_auxiliary place term.test) (some_term columns is_on_auxiliary terms) keep.beside;
       },
       each_fits columns nearest (next index) terms parts.1 (record {
         matches = or_second (matches_no_vector place term.test) (some_term columns matches_no_vector terms) keep.matches;
@@ -98,6 +111,7 @@ each_fits columns nearest index (term ∷ terms) none keep =
         operator = or_second (has_untaken_operator place term.test) (some_term columns has_untaken_operator terms) keep.operator;
         bound = or_second (is_beside_bounds nearest place term.test) (some_term columns (is_beside_bounds nearest) terms) keep.bound;
         equal = or_second (counts_without_equal place term.test) (some_term columns counts_without_equal terms) keep.equal;
+        beside = beside_second nearest (is_on_auxiliary place term.test) (some_term columns is_on_auxiliary terms) keep.beside;
       }),
     )
 
