@@ -1,19 +1,21 @@
 -- Hits are in a strict order, in which hits with different rowids have each their own place.
-use Rattle.std.proofs.Common.{◌≡◌, ℕ, ℤ, true, false, cond, List, [], ◌∷◌, refl, sym, ap, ap₂, ◌∙◌, inl, inr, Less, Equal, Greater}
+use Rattle.std.proofs.Common.{◌≡◌, ℕ, ℤ, true, false, cond, List, [], ◌∷◌, ◌++◌, take, refl, sym, ap, ap₂, ◌∙◌, inl, inr, Less, Equal, Greater}
 use Rattle.std.specs.Prelude.{int_lt}
 use Rattle.std.specs.Cmp.{IsTotalOrder, IsStrictWeakOrder}
 use Rattle.std.specs.List.{IsDistinct}
+use Rattle.std.specs.List.Sorted.{IsPermutation}
 use Rattle.std.specs.Ordering.{is_lt, nat_cmp, int_cmp, int_eq, ordering_then, ordering_reverse}
 use Rattle.std.specs.declared.cmp.Ordering.{Ordering}
 use Rattle.std.proofs.lemmas.Bool.{cases_Bool, false≢true}
 use Rattle.std.proofs.lemmas.Cmp.{ranked, int_ranked, tied_itself, nat_cmp_total, int_cmp_total, int_eq_equiv, on_total, then_total}
 use Rattle.std.proofs.lemmas.List.Sorted.{ranks_by}
-use Rattle.vec_base.specs.Ranks.{first_ranked}
+use Rattle.vec_base.specs.Ranks.{all_placed, first_ranked}
 use Rattle.vec_base.specs.inner.Offers.{offered}
 use Rattle.vec_base.specs.inner.StrictOrders.{IsStrictOrder, AreRanked, AllRanked, IsInOrder}
 use Rattle.vec_base.proofs.RankLaws.{each-map, offered_ranked}
 use Rattle.topk_merge.specs.declared.hit.Hit.{Hit}
 use Rattle.topk_merge.specs.Hits.{hit_cmp, is_before}
+use Rattle.topk_merge.proofs.OrderLaws.{offered-permuted, offered-merged}
 
 -- hits are compared by distance, then by rowid, and both are total
 pub hit_total : IsTotalOrder hit_cmp
@@ -116,3 +118,11 @@ rising_ranked (hit ∷ hits) rise = (
 -- what is left of offers of hits
 pub offered_hits : (k : ℕ) (hits : List Hit) → AllRanked is_before hits → offered is_before k [] hits ≡ first_ranked is_before k hits
 offered_hits k hits ranked = offered_ranked is_before hit_order k hits ranked
+
+-- what offers of hits leave does not depend on their order
+pub permuted_hits : (k : ℕ) (xs ys : List Hit) → IsPermutation xs ys → offered is_before k [] xs ≡ offered is_before k [] ys
+permuted_hits = offered-permuted is_before hit_order same_hit
+
+-- what two lists that offers of hits left give together
+pub merged_hits : (k : ℕ) (xs ys : List Hit) → take k (all_placed is_before (offered is_before k [] xs) (offered is_before k [] ys)) ≡ offered is_before k [] (xs ++ ys)
+merged_hits = offered-merged is_before hit_order same_hit

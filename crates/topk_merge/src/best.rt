@@ -3,7 +3,7 @@ ghost use Rattle.std.specs.Prelude.{◌≡◌, ◌≤◌, ◌==◌, false, true,
 ghost use Rattle.std.specs.Bool.{Decides};
 ghost use Rattle.std.specs.List.{All};
 ghost use Rattle.std.specs.List.Sorted.{IsSortedBy, IsPartitionPoint};
-ghost use Rattle.vec_base.specs.Ranks.{placed};
+ghost use Rattle.vec_base.specs.Ranks.{placed, all_placed};
 ghost use Rattle.topk_merge.specs.Hits.{is_before};
 
 use crate::hit::Hit;
@@ -44,6 +44,7 @@ impl Best {
     }
 
     /// Keeps the first of the hits and this one. It takes no memory.
+    #[inline]
     pub fn offer(&mut self, hit: Hit)
         ensures room { self.new.room ≡ self.old.room }
         ensures hits { self.new.hits ≡ take self.old.room (placed is_before hit self.old.hits) }
@@ -54,6 +55,17 @@ impl Best {
         let at = place(self.hits.as_slice(), &hit);
         self.hits.truncate(self.room - 1);
         let _ = self.hits.insert(at, hit);
+    }
+
+    /// Keeps the first of the hits and those of the other list. It takes no memory.
+    pub fn merge(&mut self, other: &Best)
+        ensures room { self.new.room ≡ self.old.room }
+        ensures hits { self.new.hits ≡ take self.old.room (all_placed is_before self.old.hits other.now.hits) }
+    {
+        let _ = &self.hits;
+        for hit in &other.hits {
+            self.offer(*hit);
+        }
     }
 
     /// The hits that are kept, in order.
@@ -88,6 +100,7 @@ impl Best {
 }
 
 // Whether a list of at most `room` hits is full, and the hit comes before none of them.
+#[inline]
 fn is_left_out(hits: &[Hit], room: usize, hit: &Hit) -> bool
     requires fits { length hits.now ≤ room }
     requires sorted { IsSortedBy is_before hits.now }

@@ -1,0 +1,5 @@
+//! Tests of plans, over public calls.
+#![tactic(auto)]
+
+#[cfg(test)]
+mod tests;
