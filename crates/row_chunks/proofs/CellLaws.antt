@@ -1,5 +1,5 @@
 -- The values that cells take, and the kinds of columns by their places.
-use Rattle.std.proofs.Common.{◌≡◌, ◌<◌, ℕ, zero, suc, Bool, true, List, [], ◌∷◌, length, get_or, slice_get, Option, Some, None, sym, ap₂, ◌∙◌, arith, true≢false, false}
+use Rattle.std.proofs.Common.{◌≡◌, ◌<◌, ℕ, zero, suc, Bool, true, List, [], ◌∷◌, length, get_or, slice_get, Option, Some, None, sym, ◌∙◌, arith, true≢false, false}
 use Rattle.std.proofs.lemmas.Bool.{and_parts}
 use Rattle.vec_base.specs.declared.value.Value.{Value}
 use Rattle.vec_base.specs.declared.value.Value.TheVariants.{Null, Int, Text, Blob, Int8, Bits}

@@ -4,7 +4,7 @@ use Rattle.std.proofs.lemmas.Bool.{and_parts, and_from}
 use Rattle.vec_base.specs.declared.value.Value.{Value}
 use Rattle.row_model.specs.declared.schema.Kind.{Kind}
 use Rattle.row_chunks.specs.Cells.{is_cell_value, are_cell_values, takes_value}
-use Rattle.row_chunks.specs.RowSlots.{UsedRow, RowSlots, used_by, slot_at, all_free, with_slot, with_vector, with_cell, HoldCells}
+use Rattle.row_chunks.specs.RowSlots.{UsedRow, RowSlots, used_by, all_free, with_slot, with_vector, with_cell, HoldCells}
 
 -- an element of a list with one changed is the new one, or as before
 set_either : {A : Type 0} (xs : List A) (i j : ℕ) (new d : A) → (get_or (set xs i new) j d ≡ new) ⊎ (get_or (set xs i new) j d ≡ get_or xs j d)

@@ -1,5 +1,5 @@
 -- One value put into a list of values that are shown as others.
-use Rattle.std.proofs.Common.{◌≡◌, ℕ, ℤ, pos, negsuc, Bool, true, false, not, ◌||◌, nat_eq, List, map, set, replicate, zero, suc, [], ◌∷◌, Ok, Err, refl, sym, ap, ap₂, ◌∙◌, of_z, w64, true≢false, arith}
+use Rattle.std.proofs.Common.{◌≡◌, ℕ, ℤ, pos, negsuc, true, not, ◌||◌, nat_eq, List, map, set, replicate, zero, suc, ◌∷◌, Ok, Err, refl, sym, ap, ap₂, ◌∙◌, of_z, w64, true≢false, arith}
 use Rattle.std.specs.Bool.{if◌then◌else◌}
 use Rattle.std.specs.Result.{is_ok}
 use Rattle.std.specs.declared.result.Result.{Result}

@@ -1,5 +1,5 @@
 -- Slots with their cells by the slots without them: a change of one slot, and which are used.
-use Rattle.std.proofs.Common.{◌≡◌, ◌≢◌, ◌<◌, ◌+◌, ℕ, suc, zero, List, [], ◌∷◌, map, length, get_or, set, replicate, Option, Some, None, refl, sym, ap, ap₂, ◌∙◌, arith}
+use Rattle.std.proofs.Common.{◌≡◌, ◌≢◌, ◌<◌, ◌+◌, ℕ, suc, zero, List, [], ◌∷◌, map, length, get_or, set, replicate, Option, Some, None, refl, ap, ap₂, ◌∙◌, arith}
 use Rattle.std.specs.Option.{is_some, option_map}
 use Rattle.chunk_slots.specs.Slots.{UsedSlot}
 use Rattle.row_chunks.specs.RowSlots.{used_by, vectors_alone}

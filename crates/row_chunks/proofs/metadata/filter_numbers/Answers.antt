@@ -1,4 +1,4 @@
-use Rattle.std.proofs.Common.{w64, to_z, of_z, ap, sym, ◌∙◌, map, rules}
+use Rattle.std.proofs.Common.{w64, ap, sym, ◌∙◌, rules}
 use Rattle.std.proofs.lemmas.Int.{to_z-of_z}
 use Rattle.vec_base.specs.Comparison.{satisfies}
 use Rattle.vec_base.specs.declared.value.Value.TheVariants.{Int}

@@ -1,5 +1,4 @@
-use Rattle.std.proofs.Common.{w64, of_z, not, nat_eq, true, sym, ap, ◌∙◌, ◌≡◌}
-use Rattle.row_model.specs.Values.{is_bool}
+use Rattle.std.proofs.Common.{w64, of_z, not, nat_eq}
 use Rattle.metadata_chunks.specs.Columns.{number_of}
 use Rattle.row_chunks.proofs.PutLaws.{put_shown, truth_shown}
 use Rattle.row_chunks.proofs.CellLaws.{cell_bool}

@@ -1,8 +1,8 @@
-use Rattle.std.proofs.Common.{◌≡◌, ◌<◌, ◌+◌, ◌∷◌, [], ◌++◌, true, length, get_or, set, take, ap, ap₂, sym, ◌∙◌, subst, arith}
+use Rattle.std.proofs.Common.{◌≡◌, ◌<◌, ◌+◌, length, get_or, set, ap, sym, ◌∙◌, subst, arith}
 use Rattle.std.proofs.lemmas.List.{length-map}
 use Rattle.vec_base.specs.declared.value.Value.TheVariants.{Null}
 use Rattle.row_chunks.specs.Cells.{is_cell_value}
-use Rattle.row_chunks.specs.inner.CellColumns.{CellList, column_with, kinds_in, cells_at, KeepsOthers}
+use Rattle.row_chunks.specs.inner.CellColumns.{column_with, kinds_in, cells_at, KeepsOthers}
 use Rattle.row_chunks.proofs.ColumnLaws.{keeps-itself, kept_more, there_kept, cells_more, count_kept}
 use Rattle.row_chunks.proofs.WriteLaws.{IsWritten, begun, cell_there, cell_takes, cell_written, value_left_out, all_written}
 use Rattle.row_chunks.proofs.row_chunk.write_cells.Goals as goal

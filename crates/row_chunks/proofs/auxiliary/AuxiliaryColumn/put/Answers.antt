@@ -1,7 +1,6 @@
 use Rattle.std.proofs.Common.{ap, ap₂, ◌∙◌, map, set}
 use Rattle.std.proofs.lemmas.List.{map-set}
-use Rattle.vec_base.specs.declared.value.Value.{Value}
-use Rattle.row_chunks.specs.inner.CellColumns.{CellList, column_with}
+use Rattle.row_chunks.specs.inner.CellColumns.{column_with}
 use Rattle.row_chunks.specs.inner.Held.{value_held}
 use Rattle.row_chunks.proofs.auxiliary.AuxiliaryColumn.put.Goals as goal
 

@@ -2,7 +2,6 @@ use Rattle.std.proofs.Common.{◌∙◌, ap, sym}
 use Rattle.std.specs.List.{list_any}
 use Rattle.vec_base.specs.Comparison.{satisfies}
 use Rattle.vec_base.specs.declared.value.Op.TheVariants.{Eq}
-use Rattle.vec_base.specs.declared.value.Value.{Value}
 use Rattle.vec_base.specs.declared.value.Value.TheVariants.{Int, Text}
 use Rattle.metadata_chunks.specs.Columns.{kept}
 use Rattle.row_chunks.specs.inner.Shown.{column_shown}

@@ -1,4 +1,4 @@
-use Rattle.std.proofs.Common.{◌≡◌, ◌&&◌, ◌<◌, subst, true, false, length, get_or, slice_get, ap, ap₂, sym, ◌∙◌, refl, arith, Some}
+use Rattle.std.proofs.Common.{◌&&◌, ◌<◌, subst, false, length, get_or, slice_get, ap, ap₂, sym, ◌∙◌, refl, arith}
 use Rattle.std.specs.Option.{is_some}
 use Rattle.vec_base.specs.declared.value.Value.TheVariants.{Null}
 use Rattle.row_model.specs.Values.{passes}

@@ -1,4 +1,4 @@
-use Rattle.std.proofs.Common.{◌≡◌, ◌<◌, true, length, get_or, set, slice_get, ap, ap₂, sym, ◌∙◌, subst, refl, arith}
+use Rattle.std.proofs.Common.{◌<◌, length, set, slice_get, ap, ap₂, sym, ◌∙◌, subst, refl, arith}
 use Rattle.row_chunks.specs.Cells.{is_cell_value, takes_value}
 use Rattle.row_chunks.specs.RowSlots.{slot_at, with_slot, with_cell}
 use Rattle.row_chunks.specs.inner.CellColumns.{column_with}
