@@ -3,7 +3,7 @@ ghost use Rattle.std.specs.Prelude.{◌≡◌, ℕ, ◌<◌, length, true, None,
 ghost use Rattle.std.specs.Option.{option_copied, option_map};
 ghost use Rattle.chunk_slots.specs.Slots.{rowid_of as rowid_in_slot, slot_at};
 ghost use Rattle.row_model.specs.Change.{rows_vector_bytes};
-ghost use Rattle.shadow_records.specs.PlacedTables.{first_in, plain_rows, row_at, row_of};
+ghost use Rattle.shadow_records.specs.PlacedTables.{IsPlaced, first_in, plain_rows, row_at, row_of};
 ghost use Rattle.table_version.specs.Inserting.{partition_in};
 ghost use Rattle.table_version.specs.Kept.{widths_of};
 ghost use Rattle.table_version.specs.Versions.{Follows, next_row, row_with_id, rowid_in, slot_of_row};
@@ -16,6 +16,13 @@ use std::alloc::Global;
 use vec_base::{List, Memory, Value};
 
 impl TableVersion {
+    /// The table is a valid one, and its rows have sound places. The call does nothing: its clause is all that it gives.
+    pub fn known(&self)
+        ensures { IsPlaced self.now.table }
+    {
+        let _top = self.top;
+    }
+
     /// The least rowid of a row above one, or the least of all.
     #[tactic(auto, using(crate::proofs::ReaderLaws::next_rowid))]
     pub fn next_rowid(&self, after: Option<i64>) -> Option<i64>
