@@ -12,9 +12,7 @@ ghost use Rattle.row_model.specs.Valid.{is_top};
 
 use crate::insert::{free_place, given_rowid, long_value, row_of, taken_id};
 use crate::totals::{Totals, row_side_bytes, row_vector_bytes};
-use row_model::{
-    Place, Row, Table, assigned, larger, over_rows, over_sides, over_vectors, spent,
-};
+use row_model::{Place, Row, Table, assigned, larger, over_rows, over_sides, over_vectors, spent};
 use std::alloc::Global;
 use vec_base::{List, Memory, Refusal, Value};
 

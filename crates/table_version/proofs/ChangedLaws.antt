@@ -184,10 +184,11 @@ values_changed columns i place kind value (r ∷ rs) there key fits valid =
 
 held_changed : (i : ℤ) (place : ℕ) (value : Value) (rows : List Row) → IsRepresentable value → AllByRecursion IsRepresentableRow rows → AllByRecursion IsRepresentableRow (map (value_changed i place value) rows)
 held_changed i place value [] held all = tt
-held_changed i place value (r ∷ rs) held all =
-    (elim (int_eq r.rowid i) as (λ b. IsRepresentableRow (if b then record r { values = slice_set r.values place value } else r))
-    [ true ↦ record { rowid = all.0.rowid; values = all-set IsRepresentable r.values place value held all.0.values } | false ↦ all.0 ],
-    held_changed i place value rs held all.1)
+held_changed i place value (r ∷ rs) held all = (
+  elim (int_eq r.rowid i) as (λ b. IsRepresentableRow (if b then record r { values = slice_set r.values place value } else r))
+      [ true ↦ record { rowid = all.0.rowid; values = all-set IsRepresentable r.values place value held all.0.values } | false ↦ all.0 ],
+  held_changed i place value rs held all.1,
+)
 
 -- ---- places
 

@@ -1,4 +1,3 @@
-
 -- Inserting: what a new row makes of a table, and what refuses it. Kept: what is kept of a row's values. PlacedRows: rows with one more or less.
 -- Versions: the state of a table, and where it differs from the one that it was shared from.
 -- Viewed: a row that is read column by column.

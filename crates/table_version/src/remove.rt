@@ -31,9 +31,7 @@ fn kept_bytes(row: &RowRef<'_>) -> u64
     requires short { id_side (option_copied row.now.id) + sum_by side_bytes row.now.partition.now + sum_by side_bytes (cells_in (slot_at row.now.slots.now row.now.slot)) < 2 ^ 64 }
     ensures { result ≡ id_side (option_copied row.now.id) + sum_by side_bytes row.now.partition.now + sum_by side_bytes (cells_in (slot_at row.now.slots.now row.now.slot)) }
 {
-    id_bytes(row.id)
-        + all_side_bytes(row.partition.as_slice())
-        + row.slots.side_bytes(row.slot)
+    id_bytes(row.id) + all_side_bytes(row.partition.as_slice()) + row.slots.side_bytes(row.slot)
 }
 
 /// The bytes of the texts and blobs of the row of a rowid, if there is one.

@@ -114,9 +114,6 @@ impl RowView<'_> {
         ensures pieces { steps.new.pieces ≡ steps.old.pieces }
     {
         let number = Group::Vectors.before(self.schema.columns.as_slice(), column - 1);
-        self.row
-            .slots
-            .slots()
-            .vector(self.row.slot, number, steps)
+        self.row.slots.slots().vector(self.row.slot, number, steps)
     }
 }

@@ -36,9 +36,11 @@ set_cell-requires c =
     let at = set_place columns c.args.column c.args.value.now sets in
     let is = cell_kind at.kind c.args.value.now at.sort at.fits c.requires.vector in
     let index : c.before-index.result ≡ before_in is_cell columns (c.args.column - 1) = search rules in
-    record { cell = ap (λ kinds. takes_value (slice_get kinds c.before-index.result) c.args.value.now) c.self.invariant.kinds
-        ∙ ap (λ (n : ℕ). takes_value (slice_get (kinds_of columns) n) c.args.value.now) index
-        ∙ ap (λ kind. takes_value kind c.args.value.now) (cell_taken columns (c.args.column - 1) at.kind at.there is) ∙ at.fits }
+    record {
+      cell = ap (λ kinds. takes_value (slice_get kinds c.before-index.result) c.args.value.now) c.self.invariant.kinds
+          ∙ ap (λ (n : ℕ). takes_value (slice_get (kinds_of columns) n) c.args.value.now) index
+          ∙ ap (λ kind. takes_value kind c.args.value.now) (cell_taken columns (c.args.column - 1) at.kind at.there is) ∙ at.fits;
+    }
 
 pub returns-in_err-is_there-clause-origin : goal.returns-in_err-is_there-clause-origin
 returns-in_err-is_there-clause-origin c =
@@ -61,11 +63,11 @@ overflow_add-self c =
     let setting = cell_setting v.name v.schema v.top v.rows v.side_bytes c.args.column c.args.value.now c.self.invariant at c.value_representable.ensures c.requires.vector in
     let rows = c.in_ok-is_there.ensures.rows ∙ ap (λ (n : ℕ). with_changed c.args.rowid.now (with_cell n c.args.value.now) v.rows.rows) index in
     let added : c.bytes_added.result ≡ (if is_some (stored_of c.args.rowid.now v.rows.rows) then side_bytes c.args.value.now else 0) =
-        c.bytes_added.ensures ∙ ap (λ (b : Bool). if b then side_bytes c.args.value.now else 0) c.in_ok-is_there.ensures.answer in
+    c.bytes_added.ensures ∙ ap (λ (b : Bool). if b then side_bytes c.args.value.now else 0) c.in_ok-is_there.ensures.answer in
     let total = cell_total v.name v.schema v.top c.args.rowid.now c.args.column c.before-index.result at.kind c.args.value.now _ v.rows c.set_cell.new.self v.side_bytes c.cell_bytes-before.result c.bytes_added.result
-        c.self.invariant setting is index rows c.cell_bytes-before.ensures added in
+    c.self.invariant setting is index rows c.cell_bytes-before.ensures added in
     let sound = sound-changed v.name v.schema v.top c.args.rowid.now (c.args.column - 1) at.kind c.args.value.now _ v.rows c.set_cell.new.self v.side_bytes (v.side_bytes - c.cell_bytes-before.result + c.bytes_added.result)
-        c.self.invariant setting rows c.set_cell.ensures.shape total in
+    c.self.invariant setting rows c.set_cell.ensures.shape total in
     let few : v.side_bytes - c.cell_bytes-before.result + c.bytes_added.result < 2 ^ 64 = sides_fit v.name v.schema v.top c.set_cell.new.self (v.side_bytes - c.cell_bytes-before.result + c.bytes_added.result) sound in
     search rules
 
@@ -80,11 +82,11 @@ invariant_of-self-2 c =
     let setting = cell_setting v.name v.schema v.top v.rows v.side_bytes c.args.column c.args.value.now c.self.invariant at c.value_representable.ensures c.requires.vector in
     let rows = c.in_ok-is_there.ensures.rows ∙ ap (λ (n : ℕ). with_changed c.args.rowid.now (with_cell n c.args.value.now) v.rows.rows) index in
     let added : c.bytes_added.result ≡ (if is_some (stored_of c.args.rowid.now v.rows.rows) then side_bytes c.args.value.now else 0) =
-        c.bytes_added.ensures ∙ ap (λ (b : Bool). if b then side_bytes c.args.value.now else 0) c.in_ok-is_there.ensures.answer in
+    c.bytes_added.ensures ∙ ap (λ (b : Bool). if b then side_bytes c.args.value.now else 0) c.in_ok-is_there.ensures.answer in
     let total = cell_total v.name v.schema v.top c.args.rowid.now c.args.column c.before-index.result at.kind c.args.value.now _ v.rows c.set_cell.new.self v.side_bytes c.cell_bytes-before.result c.bytes_added.result
-        c.self.invariant setting is index rows c.cell_bytes-before.ensures added in
+    c.self.invariant setting is index rows c.cell_bytes-before.ensures added in
     let sound = sound-changed v.name v.schema v.top c.args.rowid.now (c.args.column - 1) at.kind c.args.value.now _ v.rows c.set_cell.new.self v.side_bytes (v.side_bytes - c.cell_bytes-before.result + c.bytes_added.result)
-        c.self.invariant setting rows c.set_cell.ensures.shape total in
+    c.self.invariant setting rows c.set_cell.ensures.shape total in
     sound
 
 pub returns-clause-table : goal.returns-clause-table
