@@ -10,17 +10,31 @@ use std::alloc::Global;
 use std::test::Fail;
 use vec_base::{Bytes, List, Memory, Steps, Txt, Value};
 
-/// No rows, in chunks of 8 slots, with vectors of two bytes and with numbers as cells.
+/// Vectors of two bytes.
+fn widths(alloc: Global) -> Result<List<u16>, Memory>
+    ensures { IfOk result (λ widths. widths ≡ 2 ∷ []) }
+{
+    let mut widths = List::new(alloc);
+    widths.push(2u16)?;
+    Ok(widths)
+}
+
+/// Numbers as cells.
+fn kinds(alloc: Global) -> Result<List<Kind>, Memory>
+    ensures { IfOk result (λ kinds. kinds ≡ IntMeta ∷ []) }
+{
+    let mut kinds = List::new(alloc);
+    kinds.push(Kind::IntMeta)?;
+    Ok(kinds)
+}
+
+/// No rows, in chunks of 8 slots.
 fn store(alloc: Global) -> Result<RowStore, Memory>
     ensures rows { IfOk result (λ store. store.rows ≡ []) }
     ensures widths { IfOk result (λ store. store.widths ≡ 2 ∷ []) }
     ensures kinds { IfOk result (λ store. store.kinds ≡ IntMeta ∷ []) }
 {
-    let mut widths = List::new(alloc);
-    widths.push(2u16)?;
-    let mut kinds = List::new(alloc);
-    kinds.push(Kind::IntMeta)?;
-    RowStore::new(alloc, 8, widths, kinds)
+    RowStore::new(alloc, 8, widths(alloc)?, kinds(alloc)?)
 }
 
 /// Puts in the first row, with the id "a", a vector of 1 and 2, and the number 3.
@@ -121,15 +135,49 @@ fn a_row_that_is_not_there_does_not_change(rt: HostRuntime) -> Result<(), Fail> 
     Ok(())
 }
 
+/// The first row, the row of an id, the first chunk, and how many rows there are.
+type Seen = (Option<i64>, Option<i64>, Option<u32>, u64);
+
+/// What is seen of a store.
+fn seen(store: &RowStore) -> Seen {
+    (
+        store.next(None),
+        store.rowid_of("a"),
+        store.next_chunk(0),
+        store.len(),
+    )
+}
+
+/// What is seen before and after the only row goes, and what is answered when it is to go twice.
+fn removed(alloc: Global) -> Result<(Seen, Seen, (bool, bool)), Memory> {
+    let mut store = store_of(alloc, 5)?;
+    let before = seen(&store);
+    let answers = (store.remove(alloc, &5)?, store.remove(alloc, &5)?);
+    Ok((before, seen(&store), answers))
+}
+
 #[test]
 fn a_row_is_found_and_goes(rt: HostRuntime) -> Result<(), Fail> {
-    let alloc = rt.alloc();
-    let mut store = store_of(alloc, 5).or(Err("no memory"))?;
-    store.known();
-    assert_eq!(rt; (store.next(None), store.rowid_of("a")), (Some(5), Some(5)));
-    assert_eq!(rt; store.next_chunk(0), Some(1));
-    assert!(rt; store.slots(1).is_some() && store.partition(1).is_some());
-    assert_eq!(rt; (store.len(), store.remove(alloc, &5)), (1, Ok(true)));
-    assert_eq!(rt; (store.len(), store.remove(alloc, &5)), (0, Ok(false)));
+    let (before, after, answers) = removed(rt.alloc()).or(Err("no memory"))?;
+    assert_eq!(rt; before, (Some(5), Some(5), Some(1), 1));
+    assert_eq!(rt; after, (None, None, None, 0));
+    assert_eq!(rt; answers, (true, false));
+    Ok(())
+}
+
+/// Whether a chunk has slots, and whether it has partition values.
+fn parts(alloc: Global, chunk: u32) -> Result<(bool, bool), Memory> {
+    let store = store_of(alloc, 5)?;
+    Ok((
+        store.slots(chunk).is_some(),
+        store.partition(chunk).is_some(),
+    ))
+}
+
+#[test]
+fn a_chunk_is_there_with_its_row(rt: HostRuntime) -> Result<(), Fail> {
+    let there = parts(rt.alloc(), 1).or(Err("no memory"))?;
+    let other = parts(rt.alloc(), 2).or(Err("no memory"))?;
+    assert_eq!(rt; (there, other), ((true, true), (false, false)));
     Ok(())
 }
