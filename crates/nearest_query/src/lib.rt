@@ -1,0 +1,2 @@
+//! The nearest rows of a table in chunks.
+#![tactic(auto)]
