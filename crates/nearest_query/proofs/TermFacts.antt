@@ -6,7 +6,7 @@ use Rattle.std.specs.Option.{option_map}
 use Rattle.std.specs.Ordering.{int_eq}
 use Rattle.std.proofs.lemmas.Bool.{and_parts, cases_Bool, false≢true}
 use Rattle.std.proofs.lemmas.Cmp.{int_eq_equiv}
-use Rattle.std.proofs.lemmas.List.{get_or-map, length-map, get_or_default}
+use Rattle.std.proofs.lemmas.List.{get_or-map, length-map, drop_all}
 use Rattle.std.proofs.lemmas.Int.{ints}
 use Rattle.vec_base.specs.declared.value.Value.{Value}
 use Rattle.vec_base.specs.declared.value.Value.TheVariants.{Null, Int}
@@ -31,13 +31,14 @@ use Rattle.row_model.proofs.ShapeLaws.{nearest_with_target}
 use Rattle.knn_plan.specs.Levels.{meets_on, meets_rest}
 use Rattle.knn_plan.specs.PlannedColumns.{named_column, term_column}
 use Rattle.knn_plan.specs.Plans.{Planned, PlannedTarget}
-use Rattle.knn_plan.specs.TermUses.{is_on_chunks, is_on_rows}
+use Rattle.knn_plan.specs.TermUses.{is_on_chunks, is_on_rows, is_rowid}
 use Rattle.knn_plan.specs.declared.column.PlannedColumn.{PlannedColumn}
 use Rattle.knn_plan.proofs.LevelLaws.{rest_met}
 use Rattle.knn_plan.proofs.NumberLaws.{values_of, column_there, IsColumnAt, role_shows}
+use Rattle.knn_plan.proofs.RowidLaws.{rowid_value}
 use Rattle.knn_plan.proofs.TermLaws.{IsTermFor, terms_fit}
 use Rattle.shadow_records.specs.PlacedTables.{PlacedRow, PlacedTable, partition_of, plain_rows, row_at, row_of, value_in}
-use Rattle.table_version.specs.Viewed.{is_vector_column, is_kind_of, kind_numbered}
+use Rattle.table_version.specs.Viewed.{column_value, is_vector_column, is_kind_of, kind_numbered}
 use Rattle.nearest_query.specs.Searches.{IsReady}
 use Rattle.nearest_query.proofs.PlaceLaws.{all_there, found_passes}
 use Rattle.nearest_query.proofs.VectorLaws.{row_wide, target_there}
@@ -223,3 +224,90 @@ plain_column columns name m kind at other = ap (is_kind_of is_vector) (kind_name
 -- the row of a rowid has it
 pub own_rowid : (rows : List PlacedRow) (rowid : ℤ) (p : PlacedRow) → row_of rows rowid ≡ Some p → p.row.rowid ≡ rowid
 own_rowid rows rowid p is = let same = found_passes (λ q. int_eq q.row.rowid rowid) rows p is in grind (arith, ints, same)
+
+abbrev place_in : PlannedColumn → Place
+place_in column = column.place
+
+pub column_place : (columns : List Column) (term : Constraint) (column : PlannedColumn) → column ≡ term_column columns term → column.place ≡ place_of columns term.column
+column_place columns term column is = ap place_in is
+
+-- the rowid of the row is what stands at the place
+pub rowid_met : (columns : List Column) (term : Constraint) (row : Row) (rowid : ℤ) (place : Place) → place ≡ place_of columns term.column → is_rowid place ≡ true → is_on_rows place term.test ≡ true → row.rowid ≡ rowid →
+    passes term.test (Int rowid) ≡ meets_rest columns row term
+rowid_met columns term row rowid place at is on same =
+    ap (λ (n : ℤ). passes term.test (Int n)) (sym same)
+    ∙ ap (passes term.test) (sym (rowid_value place row is) ∙ ap (λ (q : Place). value_at q row) at)
+    ∙ met_by_row columns row term (subst (λ (q : Place). is_on_rows q term.test ≡ true) at on)
+
+-- what stands there is what is tested
+pub place_met : (columns : List Column) (term : Constraint) (row : Row) (place : Place) → place ≡ place_of columns term.column → is_on_rows place term.test ≡ true →
+    passes term.test (value_at place row) ≡ meets_rest columns row term
+place_met columns term row place at on =
+    ap (λ (q : Place). passes term.test (value_at q row)) at ∙ met_by_row columns row term (subst (λ (q : Place). is_on_rows q term.test ≡ true) at on)
+
+stored_value : (m : ℕ) (kind : Kind) (row : Row) → (kind ≡ IntKey → ⊥) → value_at (Declared m kind) row ≡ slice_index_or row.values (m - 1) Null
+stored_value m IntKey row other = absurd (other refl)
+stored_value m TextKey row other = refl
+stored_value m (Int8Vector width metric) row other = refl
+stored_value m (BitVector width) row other = refl
+stored_value m IntPartition row other = refl
+stored_value m TextPartition row other = refl
+stored_value m IntMeta row other = refl
+stored_value m TextMeta row other = refl
+stored_value m BoolMeta row other = refl
+stored_value m IntAux row other = refl
+stored_value m TextAux row other = refl
+stored_value m BlobAux row other = refl
+
+numbered_value : (columns : List Column) (m : ℕ) (p : PlacedRow) → 1 ≤ m → column_value (record { columns = columns; placed = p }) m ≡ slice_index_or p.row.values (m - 1) Null
+numbered_value columns zero p some = absurd (omega arith)
+numbered_value columns (suc j) p some = ap (λ (n : ℕ). slice_index_or p.row.values n Null) (let e : j ≡ suc j - 1 = omega arith in e)
+
+pub stored_at : (columns : List Column) (m : ℕ) (kind : Kind) (p : PlacedRow) → 1 ≤ m → (kind ≡ IntKey → ⊥) → column_value (record { columns = columns; placed = p }) m ≡ value_at (Declared m kind) p.row
+stored_at columns m kind p some other = numbered_value columns m p some ∙ sym (stored_value m kind p.row other)
+
+-- a declared place of a name
+pub named_number : (columns : List Column) (name : List ℕ) (m : ℕ) (kind : Kind) → Declared m kind ≡ place_of columns name → 1 ≤ m
+named_number columns name m kind at = (column_there columns name m kind (sym at)).0
+
+-- ---- terms one after another
+
+and_grouped : (a b c : Bool) → ((a && b) && c) ≡ (a && (b && c))
+and_grouped true b c = refl
+and_grouped false b c = refl
+
+and_nothing : (a : Bool) → a ≡ (a && true)
+and_nothing true = refl
+and_nothing false = refl
+
+first_of : (f : Constraint → Bool) (terms : List Constraint) (i : ℕ) (term : Constraint) → i < length terms → term ≡ get_or terms i term → list_all f (drop i terms) ≡ (f term && list_all f (drop (i + 1) terms))
+first_of f terms i term less is = rw (drop-cons terms i term, add-one i) (ap (λ (t : Constraint). f t && list_all f (drop (suc i) terms)) (sym is))
+
+-- one filter more
+pub filters_more : (f : Constraint → Bool) (terms : List Constraint) (i : ℕ) (term : Constraint) (keep new whole : Bool) → i < length terms → term ≡ get_or terms i term → new ≡ (keep && f term) →
+    (keep && list_all f (drop i terms)) ≡ whole → (new && list_all f (drop (i + 1) terms)) ≡ whole
+filters_more f terms i term keep new whole less is passed so_far =
+    ap (λ b. b && list_all f (drop (i + 1) terms)) passed
+    ∙ and_grouped keep (f term) (list_all f (drop (i + 1) terms))
+    ∙ ap (λ b. keep && b) (sym (first_of f terms i term less is))
+    ∙ so_far
+
+pub filters_end : (f : Constraint → Bool) (terms : List Constraint) (i : ℕ) (keep whole : Bool) → length terms ≤ i → (keep && list_all f (drop i terms)) ≡ whole → keep ≡ whole
+filters_end f terms i keep whole end so_far = and_nothing keep ∙ ap (λ (l : List Constraint). keep && list_all f l) (sym (drop_all i terms end)) ∙ so_far
+
+-- one term more that is met
+pub met_more : (f : Constraint → Bool) (terms : List Constraint) (i : ℕ) (term : Constraint) (whole : Bool) → i < length terms → term ≡ get_or terms i term → f term ≡ true → list_all f (drop i terms) ≡ whole → list_all f (drop (i + 1) terms) ≡ whole
+met_more f terms i term whole less is met so_far = ap (λ b. b && list_all f (drop (i + 1) terms)) (sym met) ∙ sym (first_of f terms i term less is) ∙ so_far
+
+-- or that is not
+pub met_not : (f : Constraint → Bool) (terms : List Constraint) (i : ℕ) (term : Constraint) (whole : Bool) → i < length terms → term ≡ get_or terms i term → f term ≡ false → list_all f (drop i terms) ≡ whole → false ≡ whole
+met_not f terms i term whole less is fails so_far = ap (λ b. b && list_all f (drop (i + 1) terms)) (sym fails) ∙ sym (first_of f terms i term less is) ∙ so_far
+
+pub met_end : (f : Constraint → Bool) (terms : List Constraint) (i : ℕ) (whole : Bool) → length terms ≤ i → list_all f (drop i terms) ≡ whole → true ≡ whole
+met_end f terms i whole end so_far = ap (list_all f) (sym (drop_all i terms end)) ∙ so_far
+
+-- what is known of a term
+pub term_at : (table : PlacedTable) (plan : Planned) → (target : PlannedTarget) × IsReady table plan target → (i : ℕ) (term : Constraint) → i < length plan.select.where_terms → term ≡ get_or plan.select.where_terms i term →
+    IsTermFor table.schema.columns true term
+term_at table plan ready i term less is =
+    subst (λ (t : Constraint). IsTermFor table.schema.columns true t) (sym is) (each_at (IsTermFor table.schema.columns true) plan.select.where_terms i term (terms_of table plan ready.0 ready.1) less)

@@ -1,2 +1,6 @@
 //! The nearest rows of a table in chunks.
 #![tactic(auto)]
+
+mod distance;
+mod field;
+mod terms;
