@@ -64,7 +64,7 @@ are_free (p ∷ rows) apart = (nothing_at p rows (first_pairs AreApart p rows ap
 
 -- ---- rows of a chunk
 
-some_row : (p q : PlacedRow) → Some p ≡ Some q → p ≡ q
+pub some_row : (p q : PlacedRow) → Some p ≡ Some q → p ≡ q
 some_row p q same = cc
 
 is_itself : (n : ℕ) → n == n ≡ true

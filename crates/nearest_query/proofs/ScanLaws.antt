@@ -16,7 +16,7 @@ use Rattle.row_model.specs.Schemas.{is_metadata, is_partition}
 use Rattle.row_model.specs.Values.{value_at}
 use Rattle.row_model.specs.declared.schema.Column.{Column}
 use Rattle.row_model.specs.declared.statement.Constraint.{Constraint}
-use Rattle.knn_plan.specs.Levels.{meets_on, meets_rest}
+use Rattle.knn_plan.specs.Levels.{meets_bound, meets_on, meets_rest}
 use Rattle.knn_plan.specs.Plans.{Planned, PlannedTarget}
 use Rattle.shadow_records.specs.PlacedTables.{PlacedRow, PlacedTable, first_in, row_at}
 use Rattle.table_version.specs.Versions.{slot_of_row}
@@ -24,14 +24,10 @@ use Rattle.topk_merge.specs.declared.hit.Hit.{Hit}
 use Rattle.topk_merge.specs.Hits.{is_before}
 use Rattle.topk_merge.specs.Ranking.{Ranking}
 use Rattle.nearest_query.specs.Gathered.{up_to, found}
-use Rattle.nearest_query.specs.Searches.{IsReady, is_read, is_read_row, is_within, meets_all_on_partition, on_row, row_hit, ticked, with_offers}
+use Rattle.nearest_query.specs.Searches.{IsReady, is_read, is_read_row, is_within, meets_all_on_metadata, meets_all_on_partition, on_row, row_hit, ticked, with_offers}
 use Rattle.nearest_query.proofs.Gathering.{filter-append}
 use Rattle.nearest_query.proofs.ReadLaws.{read_by_levels}
 use Rattle.nearest_query.proofs.VectorLaws.{vector_read}
-
--- the row's metadata meet the terms
-abbrev pub meets_on_metadata : PlacedTable → List Constraint → PlacedRow → Bool
-meets_on_metadata table terms p = list_all (meets_on is_metadata table.schema.columns p.row) terms
 
 abbrev pub meets_on_rest : PlacedTable → List Constraint → PlacedRow → Bool
 meets_on_rest table terms p = list_all (meets_rest table.schema.columns p.row) terms
@@ -51,31 +47,31 @@ all_true true true false first second third = absurd cc
 all_true true false c first second third = absurd cc
 all_true false b c first second third = absurd cc
 
-pub missing : (table : PlacedTable) (terms : List Constraint) (f : PlacedRow → Hit) (o : Option PlacedRow) → on_row (meets_on_metadata table terms) o ≡ false → found (is_read_row table terms) f o ≡ []
+pub missing : (table : PlacedTable) (terms : List Constraint) (f : PlacedRow → Hit) (o : Option PlacedRow) → on_row (meets_all_on_metadata table terms) o ≡ false → found (is_read_row table terms) f o ≡ []
 missing table terms f None fails = refl
 missing table terms f (Some p) fails =
     ap (λ b. if b then f p ∷ [] else [])
-    (read_by_levels table.schema.columns p.row terms ∙ middle_false (meets_all_on_partition table terms p) (meets_on_metadata table terms p) (meets_on_rest table terms p) fails)
+    (read_by_levels table.schema.columns p.row terms ∙ middle_false (meets_all_on_partition table terms p) (meets_all_on_metadata table terms p) (meets_on_rest table terms p) fails)
 
 pub failing : (table : PlacedTable) (terms : List Constraint) (f : PlacedRow → Hit) (p : PlacedRow) → meets_on_rest table terms p ≡ false → found (is_read_row table terms) f (Some p) ≡ []
 failing table terms f p fails =
     ap (λ b. if b then f p ∷ [] else [])
-    (read_by_levels table.schema.columns p.row terms ∙ last_false (meets_all_on_partition table terms p && meets_on_metadata table terms p) (meets_on_rest table terms p) fails)
+    (read_by_levels table.schema.columns p.row terms ∙ last_false (meets_all_on_partition table terms p && meets_all_on_metadata table terms p) (meets_on_rest table terms p) fails)
 
-pub passing : (table : PlacedTable) (terms : List Constraint) (f : PlacedRow → Hit) (p : PlacedRow) → meets_all_on_partition table terms p ≡ true → meets_on_metadata table terms p ≡ true → meets_on_rest table terms p ≡ true →
+pub passing : (table : PlacedTable) (terms : List Constraint) (f : PlacedRow → Hit) (p : PlacedRow) → meets_all_on_partition table terms p ≡ true → meets_all_on_metadata table terms p ≡ true → meets_on_rest table terms p ≡ true →
     found (is_read_row table terms) f (Some p) ≡ f p ∷ []
 passing table terms f p partition metadata rest =
     ap (λ b. if b then f p ∷ [] else [])
-    (read_by_levels table.schema.columns p.row terms ∙ all_true (meets_all_on_partition table terms p) (meets_on_metadata table terms p) (meets_on_rest table terms p) partition metadata rest)
+    (read_by_levels table.schema.columns p.row terms ∙ all_true (meets_all_on_partition table terms p) (meets_all_on_metadata table terms p) (meets_on_rest table terms p) partition metadata rest)
 
 -- the row of a slot whose bit is set
 pub record IsRowOfSlot (table : PlacedTable) (terms : List Constraint) (o : Option PlacedRow) (rowid : ℤ) : Type 0 where
   pub row : PlacedRow
   pub is : o ≡ Some row
-  pub metadata : meets_on_metadata table terms row ≡ true
+  pub metadata : meets_all_on_metadata table terms row ≡ true
   pub same : row.row.rowid ≡ rowid
 
-pub at-slot : (table : PlacedTable) (terms : List Constraint) (o : Option PlacedRow) (bit : Bool) (slot : Option UsedSlot) (rowid : ℤ) → bit ≡ on_row (meets_on_metadata table terms) o → bit ≡ true →
+pub at-slot : (table : PlacedTable) (terms : List Constraint) (o : Option PlacedRow) (bit : Bool) (slot : Option UsedSlot) (rowid : ℤ) → bit ≡ on_row (meets_all_on_metadata table terms) o → bit ≡ true →
     slot ≡ option_map slot_of_row o → rowid_of slot ≡ Some rowid → IsRowOfSlot table terms o rowid
 at-slot table terms None bit slot rowid is set kept given = absurd (false≢true (sym is ∙ set))
 at-slot table terms (Some p) bit slot rowid is set kept given =
@@ -83,7 +79,7 @@ at-slot table terms (Some p) bit slot rowid is set kept given =
     record { row = p; is = refl; metadata = sym is ∙ set; same = cc }
 
 -- a slot whose bit is set is used
-used_from : (table : PlacedTable) (terms : List Constraint) (o : Option PlacedRow) → on_row (meets_on_metadata table terms) o ≡ true → is_some (option_map slot_of_row o) ≡ true
+used_from : (table : PlacedTable) (terms : List Constraint) (o : Option PlacedRow) → on_row (meets_all_on_metadata table terms) o ≡ true → is_some (option_map slot_of_row o) ≡ true
 used_from table terms None set = absurd cc
 used_from table terms (Some p) set = refl
 
@@ -111,6 +107,20 @@ offered-none columns terms best hit outside = ap (λ b. record { room = best.roo
 -- a row's hit
 pub hit-is : (target : PlannedTarget) (p : PlacedRow) (distance : ℕ) (rowid : ℤ) → distance ≡ distance_at target.column.place target.query p.row → p.row.rowid ≡ rowid → record { distance = distance; rowid = rowid } ≡ row_hit target p
 hit-is target p distance rowid is same = let hit : ℕ → ℤ → Hit = λ d r. record { distance = d; rowid = r } in ap₂ hit is (sym same)
+
+-- the row whose vector was read, where its distance meets the terms on it
+pub read-offered : (columns : List Column) (terms : List Constraint) (best new : Ranking) (target : PlannedTarget) (p : PlacedRow) (distance : ℕ) (rowid : ℤ) → distance ≡ distance_at target.column.place target.query p.row → p.row.rowid ≡ rowid →
+    list_all (meets_bound columns distance) terms ≡ true → new.room ≡ best.room → new.hits ≡ take best.room (placed is_before (record { distance = distance; rowid = rowid }) best.hits) →
+    new ≡ with_offers columns terms best (row_hit target p ∷ [])
+read-offered columns terms best new target p distance rowid is same within room hits =
+    offered-one columns terms best new (record { distance = distance; rowid = rowid }) within room hits
+    ∙ ap (λ (h : Hit). with_offers columns terms best (h ∷ [])) (hit-is target p distance rowid is same)
+
+-- and where it does not
+pub read-left : (columns : List Column) (terms : List Constraint) (best : Ranking) (target : PlannedTarget) (p : PlacedRow) (distance : ℕ) → distance ≡ distance_at target.column.place target.query p.row →
+    list_all (meets_bound columns distance) terms ≡ false → best ≡ with_offers columns terms best (row_hit target p ∷ [])
+read-left columns terms best target p distance is outside =
+    offered-none columns terms best (row_hit target p) (ap (λ (d : ℕ). list_all (meets_bound columns d) terms) (sym is) ∙ outside)
 
 -- ---- one after another
 
@@ -166,14 +176,14 @@ used-bit table slots c s less kept = get_or-map is_some slots.slots s None false
 
 filtered_at : (table : PlacedTable) (terms : List Constraint) (c s : ℕ) (old new : List Bool) (o : Option PlacedRow) → row_at table.rows c s ≡ o → get_or old s false ≡ is_some o →
     (get_or old s false ≡ false → get_or new s false ≡ false) →
-    ((p : PlacedRow) → row_at table.rows c s ≡ Some p → get_or new s false ≡ (get_or old s false && meets_on_metadata table terms p)) → get_or new s false ≡ on_row (meets_on_metadata table terms) o
+    ((p : PlacedRow) → row_at table.rows c s ≡ Some p → get_or new s false ≡ (get_or old s false && meets_all_on_metadata table terms p)) → get_or new s false ≡ on_row (meets_all_on_metadata table terms) o
 filtered_at table terms c s old new None is used cleared passed = cleared used
-filtered_at table terms c s old new (Some p) is used cleared passed = passed p is ∙ ap (λ b. b && meets_on_metadata table terms p) used
+filtered_at table terms c s old new (Some p) is used cleared passed = passed p is ∙ ap (λ b. b && meets_all_on_metadata table terms p) used
 
 -- after the filters
 pub filtered : (table : PlacedTable) (terms : List Constraint) (slots : Slots) (c s : ℕ) (old new : List Bool) → s < length slots.slots → old ≡ map is_some slots.slots → slot_at slots s ≡ option_map slot_of_row (row_at table.rows c s) →
     (get_or old s false ≡ false → get_or new s false ≡ false) →
-    ((p : PlacedRow) → row_at table.rows c s ≡ Some p → get_or new s false ≡ (get_or old s false && meets_on_metadata table terms p)) →
-    get_or new s false ≡ on_row (meets_on_metadata table terms) (row_at table.rows c s)
+    ((p : PlacedRow) → row_at table.rows c s ≡ Some p → get_or new s false ≡ (get_or old s false && meets_all_on_metadata table terms p)) →
+    get_or new s false ≡ on_row (meets_all_on_metadata table terms) (row_at table.rows c s)
 filtered table terms slots c s old new less valid kept cleared passed =
     filtered_at table terms c s old new (row_at table.rows c s) refl (ap (λ l. get_or l s false) valid ∙ used-bit table slots c s less kept) cleared passed

@@ -5,7 +5,7 @@ use Rattle.vec_base.specs.Counts.{raised}
 use Rattle.vec_base.specs.inner.Offers.{offered}
 use Rattle.row_model.specs.Answer.{Near, chosen, counted, distance_at, target_of}
 use Rattle.row_model.specs.ColumnNames.{is_distance, place_of}
-use Rattle.row_model.specs.Schemas.{is_partition}
+use Rattle.row_model.specs.Schemas.{is_metadata, is_partition}
 use Rattle.row_model.specs.Values.{meets}
 use Rattle.row_model.specs.declared.row.Row.{Row}
 use Rattle.row_model.specs.declared.schema.Column.{Column}
@@ -53,6 +53,9 @@ on_row test (Some placed) = test placed
 
 abbrev pub meets_all_on_partition : PlacedTable → List Constraint → PlacedRow → Bool
 meets_all_on_partition table terms placed = list_all (meets_on is_partition table.schema.columns placed.row) terms
+
+abbrev pub meets_all_on_metadata : PlacedTable → List Constraint → PlacedRow → Bool
+meets_all_on_metadata table terms placed = list_all (meets_on is_metadata table.schema.columns placed.row) terms
 
 -- the chunk has rows, whose partition values meet the terms
 abbrev pub is_wanted : PlacedTable → List Constraint → ℕ → Bool

@@ -3,4 +3,5 @@
 
 mod distance;
 mod field;
+mod scan;
 mod terms;

@@ -10,7 +10,7 @@ ghost use Rattle.row_model.specs.declared.schema.Column.{Column};
 ghost use Rattle.row_model.specs.declared.schema.Place.TheVariants.{Declared};
 ghost use Rattle.knn_plan.specs.Levels.{meets_bound, meets_on, meets_rest};
 ghost use Rattle.knn_plan.specs.PlannedColumns.{term_column};
-ghost use Rattle.knn_plan.specs.Plans.{PlannedTarget};
+ghost use Rattle.knn_plan.specs.Plans.{IsPlanFor, PlannedTarget};
 ghost use Rattle.knn_plan.specs.TermUses.{is_on_chunks, is_on_rows};
 ghost use Rattle.knn_plan.proofs.TermLaws.{IsTermFor};
 ghost use Rattle.shadow_records.specs.PlacedTables.{PlacedRow, first_in, row_at, row_of};
@@ -118,8 +118,8 @@ fn term_met(table: &TableVersion, rowid: &i64, column: PlannedColumn, term: &Con
     }
 }
 
-/// Whether the row of a rowid meets the terms that are tested row by row.
-pub(crate) fn rest_met(table: &TableVersion, plan: &Plan, rowid: &i64) -> bool
+/// Whether the row of a rowid meets each of the terms that are tested row by row.
+fn row_terms_met(table: &TableVersion, plan: &Plan, rowid: &i64) -> bool
     requires ready { (target : PlannedTarget) × IsReady table.now.table plan.now target }
     ensures { (placed : PlacedRow) → row_of table.now.table.rows rowid.now ≡ Some placed → result ≡ list_all (meets_rest table.now.table.schema.columns placed.row) plan.now.select.where_terms }
 {
@@ -132,6 +132,18 @@ pub(crate) fn rest_met(table: &TableVersion, plan: &Plan, rowid: &i64) -> bool
     true
 }
 
+/// Whether the row of a rowid meets the terms that are tested row by row.
+#[inline]
+pub(crate) fn rest_met(table: &TableVersion, plan: &Plan, rowid: &i64) -> bool
+    requires ready { (target : PlannedTarget) × IsReady table.now.table plan.now target }
+    ensures { (placed : PlacedRow) → row_of table.now.table.rows rowid.now ≡ Some placed → result ≡ list_all (meets_rest table.now.table.schema.columns placed.row) plan.now.select.where_terms }
+{
+    if !plan.is_by_row() {
+        return true;
+    }
+    row_terms_met(table, plan, rowid)
+}
+
 /// Whether a distance stands to the bound of a test.
 fn is_bounded(distance: u32, test: &Test) -> bool
     ensures { result ≡ is_bounded distance test.now }
@@ -142,8 +154,8 @@ fn is_bounded(distance: u32, test: &Test) -> bool
     }
 }
 
-/// Whether a distance meets the terms on it.
-pub(crate) fn bounds_met(plan: &Plan, distance: u32) -> bool
+/// Whether a distance meets each of the terms on it.
+fn distance_terms_met(plan: &Plan, distance: u32) -> bool
     requires columns { length plan.now.terms ≡ length plan.now.select.where_terms }
     ensures { (columns : List Column) → plan.now.terms ≡ map (term_column columns) plan.now.select.where_terms → result ≡ list_all (meets_bound columns distance) plan.now.select.where_terms }
 {
@@ -154,4 +166,16 @@ pub(crate) fn bounds_met(plan: &Plan, distance: u32) -> bool
         }
     }
     true
+}
+
+/// Whether a distance meets the terms on it.
+#[inline]
+pub(crate) fn bounds_met(plan: &Plan, distance: u32) -> bool
+    requires columns { length plan.now.terms ≡ length plan.now.select.where_terms }
+    ensures { (columns : List Column) → IsPlanFor columns plan.now → result ≡ list_all (meets_bound columns distance) plan.now.select.where_terms }
+{
+    if !plan.is_by_distance() {
+        return true;
+    }
+    distance_terms_met(plan, distance)
 }
