@@ -311,3 +311,10 @@ pub term_at : (table : PlacedTable) (plan : Planned) → (target : PlannedTarget
     IsTermFor table.schema.columns true term
 term_at table plan ready i term less is =
     subst (λ (t : Constraint). IsTermFor table.schema.columns true t) (sym is) (each_at (IsTermFor table.schema.columns true) plan.select.where_terms i term (terms_of table plan ready.0 ready.1) less)
+
+-- what a partition value answers of a term of the plan
+pub value_at_term : (table : PlacedTable) (plan : Planned) → (target : PlannedTarget) × IsReady table plan target → (i : ℕ) (term : Constraint) (columns : List PlannedColumn) (d : PlannedColumn) (values : List Value) (c s : ℕ) (p : PlacedRow) →
+    i < length plan.select.where_terms → term ≡ get_or plan.select.where_terms i term → columns ≡ plan.terms → row_at table.rows c s ≡ Some p → values ≡ partition_of table.schema.columns p.row.values →
+    (not (is_of is_partition (get_or columns i d).place) || passes term.test (slice_index_or values (get_or columns i d).number Null)) ≡ meets_on is_partition table.schema.columns p.row term
+value_at_term table plan ready i term columns d values c s p less is are there kept =
+    value_met table term (get_or columns i d) values c s p (column_of table.schema.columns plan.select.where_terms columns i d term (are ∙ ready.1.plan_for.terms) less is) ready.1.placed.valid.values there kept

@@ -3,5 +3,7 @@
 
 mod distance;
 mod field;
+mod piece;
 mod scan;
 mod terms;
+mod wanted;

@@ -25,8 +25,8 @@ use table_version::{Field, TableVersion};
 use vec_base::Value;
 
 /// Whether a partition value, the one at the column's number among them, meets a term.
-pub(crate) fn value_met(column: PlannedColumn, test: &Test, values: &[Value]) -> bool
-    ensures { result ≡ (not (is_of is_partition column.place) || passes test.now (slice_index_or values.now column.number Null)) }
+pub(crate) fn value_met(column: &PlannedColumn, test: &Test, values: &[Value]) -> bool
+    ensures { result ≡ (not (is_of is_partition column.now.place) || passes test.now (slice_index_or values.now column.now.number Null)) }
 {
     if !column.has_role(Role::Partition) {
         return true;
