@@ -1,0 +1,9 @@
+pub mod Gathering
+pub mod PlaceLaws
+pub mod ReadLaws
+pub mod VectorLaws
+pub mod TermFacts
+pub mod ChunkLaws
+pub mod FindingLaws
+pub mod JoiningLaws
+pub mod ScanLaws

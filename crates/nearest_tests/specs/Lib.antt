@@ -1,0 +1,2 @@
+-- ThreeColumns: the columns of the tables that are searched.
+pub mod ThreeColumns
