@@ -1,3 +1,4 @@
 pub mod FindLaws
+pub mod PointLaws
 pub mod ReadLaws
 pub mod ScanLaws

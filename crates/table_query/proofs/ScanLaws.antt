@@ -39,7 +39,7 @@ placed_rise (p ∷ ps) = ap (λ b. b && is_rising (plain_rows ps)) (above_plain 
 
 -- ---- the first row above a rowid
 
-abbrev from_rows : (Row → Bool) → Option ℤ → List PlacedRow → Option Row
+abbrev pub from_rows : (Row → Bool) → Option ℤ → List PlacedRow → Option Row
 from_rows such after ps = find (λ (r : Row). is_above after r.rowid) (filter such (plain_rows ps))
 
 -- a row that is not above it makes no difference

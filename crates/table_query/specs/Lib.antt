@@ -1,3 +1,4 @@
--- Met: the rows that meet all terms, one after another. Read: where a value of a row is read.
+-- Met: the rows that meet all terms, one after another. Read: where a value of a row is read. Said: the rowid that a test is for.
 pub mod Met
 pub mod Read
+pub mod Said

@@ -2,8 +2,10 @@
 #![tactic(auto)]
 
 mod field;
+mod lookup;
 mod rows;
 mod scan;
 
 pub use field::field_passes;
+pub use lookup::point;
 pub use scan::scan_next;
