@@ -45,7 +45,7 @@ stored number IntAux row other = refl
 stored number TextAux row other = refl
 stored number BlobAux row other = refl
 
-one_less : (n : ℕ) → n ≡ suc n - 1
+pub one_less : (n : ℕ) → n ≡ suc n - 1
 one_less n = omega arith
 
 pub column_shown : (view : ViewedRow) (number : ℕ) (kind : Kind) → kind_numbered view.columns number ≡ Some kind → (kind ≡ IntKey → ⊥) → column_value view number ≡ value_of_column number kind view.placed.row
@@ -62,7 +62,7 @@ kind_found [] j kind is = (let within = is.within in absurd (omega (arith, withi
 kind_found (column ∷ columns) zero kind is = ap Some (is.kind_is column)
 kind_found (column ∷ columns) (suc j) kind is = let within = is.within in kind_found columns j kind (record { within = omega (arith, within); kind_is = is.kind_is })
 
-numbered : (columns : List Column) (number : ℕ) (kind : Kind) → 1 ≤ number → kind_in columns (number - 1) ≡ Some kind → kind_numbered columns number ≡ Some kind
+pub numbered : (columns : List Column) (number : ℕ) (kind : Kind) → 1 ≤ number → kind_in columns (number - 1) ≡ Some kind → kind_numbered columns number ≡ Some kind
 numbered columns zero kind low there = absurd (omega (arith, low))
 numbered columns (suc place) kind low there = ap (kind_in columns) (one_less place) ∙ there
 

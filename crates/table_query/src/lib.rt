@@ -2,10 +2,12 @@
 #![tactic(auto)]
 
 mod field;
+mod items;
 mod lookup;
 mod rows;
 mod scan;
 
 pub use field::field_passes;
+pub use items::project;
 pub use lookup::point;
 pub use scan::scan_next;

@@ -30,7 +30,7 @@ pub fn point(table: &TableVersion, plan: &Plan, steps: &mut Steps) -> Option<i64
     requires plan { IsPlanFor table.now.table.schema.columns plan.now }
     requires point { plan.now.shape ≡ Point }
     ensures rowid { result ≡ option_map rowid_of (next_met table.now.table.schema.columns plan.now.select.where_terms None (plain_rows table.now.table.rows)) }
-    ensures steps { steps.new ≡ steps.old }
+    ensures reads { steps.new ≡ steps.old }
 {
     table.known();
     let index = plan.point()?;

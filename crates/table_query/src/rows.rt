@@ -19,7 +19,7 @@ use table_version::{Field, RowView, TableVersion};
 
 /// The value in a column that is not one of vectors.
 #[tactic(auto, using(crate::proofs::ReadLaws::key_shown, crate::proofs::ReadLaws::column_shown, crate::proofs::ReadLaws::plain_column))]
-fn column_value<'a>(view: &'a RowView<'_>, number: u8, kind: Kind) -> Field<'a>
+pub(crate) fn column_value<'a>(view: &'a RowView<'_>, number: u8, kind: Kind) -> Field<'a>
     requires there { kind_numbered view.now.columns number ≡ Some kind }
     requires other { is_vector kind ≡ false }
     ensures { value_shown result ≡ column_value number kind view.entry.now.placed.row }
@@ -31,7 +31,7 @@ fn column_value<'a>(view: &'a RowView<'_>, number: u8, kind: Kind) -> Field<'a>
 }
 
 /// The value at a place that is not in a column of vectors.
-fn value_at<'a>(view: &'a RowView<'_>, place: Place) -> Field<'a>
+pub(crate) fn value_at<'a>(view: &'a RowView<'_>, place: Place) -> Field<'a>
     requires there { IsThere view.now.columns place }
     requires other { is_of is_vector place ≡ false }
     ensures { value_shown result ≡ value_at place view.entry.now.placed.row }
