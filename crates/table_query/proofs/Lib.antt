@@ -1,0 +1,5 @@
+pub mod FindLaws
+pub mod ItemLaws
+pub mod PointLaws
+pub mod ReadLaws
+pub mod ScanLaws
