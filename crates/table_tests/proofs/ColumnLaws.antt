@@ -1,11 +1,11 @@
--- The column of the tests makes a valid schema, and the name of the tests is one.
-use Rattle.std.proofs.Common.{◌≡◌, ℕ, List, true, codes, refl, ap, ◌∙◌, None}
+-- The columns of the tests make valid schemas, and the names of the tests are names.
+use Rattle.std.proofs.Common.{◌≡◌, ℕ, List, true, codes, refl, ap, ◌∙◌}
 use Rattle.std.specs.List.{list_all}
 use Rattle.vec_base.specs.Words.{is_name, is_reserved}
 use Rattle.row_model.specs.Schemas.{IsValidSchema, schema_fault}
 use Rattle.row_model.specs.declared.schema.Column.{Column}
 use Rattle.row_model.specs.declared.schema.Schema.{Schema}
-use Rattle.table_tests.specs.OneColumn.{one_column}
+use Rattle.table_tests.specs.Columns.{one_column, two_columns, many_columns}
 
 abbrev schema_of : List Column → ℕ → Schema
 schema_of columns size = record { columns = columns; chunk_size = size }
@@ -14,6 +14,20 @@ pub valid_one : (schema : Schema) → schema.columns ≡ one_column → schema.c
 unfolding is_reserved
 valid_one schema columns size = record {
   rules = ap (λ cs. schema_fault (schema_of cs schema.chunk_size)) columns ∙ ap (λ n. schema_fault (schema_of one_column n)) size ∙ refl;
+  names = ap (list_all (λ column. is_name column.name)) columns ∙ refl;
+}
+
+pub valid_two : (schema : Schema) → schema.columns ≡ two_columns → schema.chunk_size ≡ 8 → IsValidSchema schema
+unfolding is_reserved
+valid_two schema columns size = record {
+  rules = ap (λ cs. schema_fault (schema_of cs schema.chunk_size)) columns ∙ ap (λ n. schema_fault (schema_of two_columns n)) size ∙ refl;
+  names = ap (list_all (λ column. is_name column.name)) columns ∙ refl;
+}
+
+pub valid_many : (schema : Schema) → schema.columns ≡ many_columns → schema.chunk_size ≡ 8 → IsValidSchema schema
+unfolding is_reserved
+valid_many schema columns size = record {
+  rules = ap (λ cs. schema_fault (schema_of cs schema.chunk_size)) columns ∙ ap (λ n. schema_fault (schema_of many_columns n)) size ∙ refl;
   names = ap (list_all (λ column. is_name column.name)) columns ∙ refl;
 }
 

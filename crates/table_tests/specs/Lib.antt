@@ -1,2 +1,2 @@
--- OneColumn: the columns of the tables that are tested.
-pub mod OneColumn
+-- Columns: the columns of the tables that are tested.
+pub mod Columns

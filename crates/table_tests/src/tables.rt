@@ -1,7 +1,7 @@
 //! The places that rows of a table take.
 ghost use Rattle.std.specs.Prelude.{◌≡◌, [], ◌∷◌, IfOk};
 ghost use Rattle.vec_base.specs.declared.value.Value.TheVariants.{Int8};
-ghost use Rattle.table_tests.specs.OneColumn.{one_column};
+ghost use Rattle.table_tests.specs.Columns.{one_column};
 
 use row_model::{Column, Kind, Metric, Schema};
 use std::alloc::Global;
@@ -77,15 +77,19 @@ fn nine_rows(alloc: Global) -> Result<TableVersion, Refusal>
     Ok(version)
 }
 
+/// The chunks behind none and behind the first, and the one behind the first when the ninth row is gone.
+fn chunks_read(alloc: Global) -> Result<[Option<u32>; 3], Refusal> {
+    let mut version = nine_rows(alloc)?;
+    let (first, second) = (version.next_chunk(0), version.next_chunk(1));
+    match version.remove(alloc, &9) {
+        Ok(_) => Ok([first, second, version.next_chunk(1)]),
+        Err(_) => Err(Refusal::WantOfMemory),
+    }
+}
+
 #[test]
 fn the_ninth_row_begins_a_chunk(rt: HostRuntime) -> Result<(), Fail> {
-    let alloc = rt.alloc();
-    let mut version = nine_rows(alloc).or(Err("refused"))?;
-    assert_eq!(rt;
-        (version.next_chunk(0), version.next_chunk(1)),
-        (Some(1), Some(2))
-    );
-    assert!(rt; version.remove(alloc, &9).or(Err("no memory"))?);
-    assert_eq!(rt; version.next_chunk(1), None);
+    let chunks = chunks_read(rt.alloc()).or(Err("refused"))?;
+    assert_eq!(rt; chunks, [Some(1), Some(2), None]);
     Ok(())
 }

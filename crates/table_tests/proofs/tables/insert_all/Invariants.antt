@@ -1,5 +1,5 @@
 use Rattle.std.proofs.Common.{◌≡◌}
-use Rattle.table_tests.specs.OneColumn.{one_column}
+use Rattle.table_tests.specs.Columns.{one_column}
 use Rattle.table_tests.proofs.tables.insert_all.Given as goal
 
 abbrev pub invariant-loop-first : goal.invariant-loop-first
