@@ -1,7 +1,7 @@
 -- A row with another value in one of its columns: it is stored with another vector or another cell, and the table stays sound.
-use Rattle.std.proofs.Common.{◌≡◌, ℕ, zero, suc, ℤ, ◌+◌, ◌<◌, ◌^◌, Bool, true, false, cond, List, [], ◌∷◌, ◌∙◌, refl, sym, ap, ap₂, subst, arith, map, length, slice_set, Option, Some, None}
-use Rattle.std.specs.Prelude.{◌&&◌, ◌||◌, find, int_lt, nat_lt, not, slice_index_or, sum_by, if◌then◌else◌}
-use Rattle.std.specs.List.{list_all, AllByRecursion, AllPairs}
+use Rattle.std.proofs.Common.{◌≡◌, ℕ, ℤ, ◌+◌, ◌<◌, Bool, true, false, cond, List, [], ◌∷◌, ◌∙◌, refl, sym, ap, ap₂, subst, arith, map, length, slice_set, Option, Some, None}
+use Rattle.std.specs.Prelude.{find, int_lt, nat_lt, slice_index_or, if◌then◌else◌}
+use Rattle.std.specs.List.{list_all, AllByRecursion}
 use Rattle.std.specs.Ordering.{int_eq}
 use Rattle.std.proofs.lemmas.Bool.{and_parts, and_from}
 use Rattle.std.proofs.lemmas.List.Sums.{sum_by-cons}
@@ -15,7 +15,7 @@ use Rattle.row_model.specs.ColumnNames.{is_text_key}
 use Rattle.row_model.specs.Groups.{before_in, kind_in}
 use Rattle.row_model.specs.Rows.{has_rowid, is_rising}
 use Rattle.row_model.specs.Schemas.{count_of, is_key, is_partition, is_vector}
-use Rattle.row_model.specs.Valid.{are_valid_values, is_valid_row, IsRepresentableRow, IsValidTable}
+use Rattle.row_model.specs.Valid.{is_valid_row, IsRepresentableRow, IsValidTable}
 use Rattle.row_model.specs.Values.{row_side_bytes, side_bytes}
 use Rattle.row_model.specs.declared.row.Row.{Row}
 use Rattle.row_model.specs.declared.schema.Column.{Column}
@@ -23,7 +23,6 @@ use Rattle.row_model.specs.declared.schema.Kind.{Kind}
 use Rattle.row_model.specs.declared.schema.Kind.TheVariants.{IntKey, TextKey, Int8Vector, BitVector, IntPartition, TextPartition, IntMeta, TextMeta, BoolMeta, IntAux, TextAux, BlobAux}
 use Rattle.row_model.specs.declared.schema.Schema.{Schema}
 use Rattle.row_model.proofs.BoolLaws.{or_first, or_second}
-use Rattle.row_model.proofs.SchemaLaws.{faultless}
 use Rattle.row_model.proofs.ValidityRows.{Keeps, is_int_key, valid_map}
 use Rattle.row_store.specs.StoredRows.{StoredRow, with_cell, with_changed, with_vector}
 use Rattle.row_store.specs.Touches.{HasSameShape, StoreState}

@@ -17,7 +17,6 @@ use Rattle.row_model.specs.declared.schema.Column.{Column}
 use Rattle.row_model.specs.declared.schema.Kind.{Kind}
 use Rattle.row_model.specs.declared.schema.Kind.TheVariants.{IntKey, TextKey, Int8Vector, BitVector, IntPartition, TextPartition, IntMeta, TextMeta, BoolMeta, IntAux, TextAux, BlobAux}
 use Rattle.row_model.specs.declared.schema.Schema.{Schema}
-use Rattle.row_model.proofs.BoolLaws.{or_first, or_second}
 use Rattle.shadow_records.specs.PlacedTables.{partition_of}
 use Rattle.row_chunks.specs.Cells.{cells_of, is_cell}
 use Rattle.chunk_slots.specs.Slots.{vector_of, vectors_of}

@@ -1,7 +1,7 @@
 -- What is kept of a row: what holds of all its values holds of that too.
 use Rattle.std.proofs.Common.{◌≡◌, ℕ, ℤ, ◌+◌, ◌≤◌, Bool, true, false, cond, List, [], ◌∷◌, ◌∙◌, refl, sym, ap, subst, arith, length, Option, Some, None}
-use Rattle.std.specs.Prelude.{◌||◌, is_some, if◌then◌else◌}
-use Rattle.std.specs.List.{list_all, cons_option, AllByRecursion}
+use Rattle.std.specs.Prelude.{if◌then◌else◌}
+use Rattle.std.specs.List.{AllByRecursion}
 use Rattle.std.specs.Str.{is_utf8}
 use Rattle.std.proofs.lemmas.Bool.{and_parts, ltb-false}
 use Rattle.std.proofs.lemmas.List.Sums.{sum_by-cons}
@@ -11,19 +11,17 @@ use Rattle.vec_base.specs.declared.value.Value.{Value}
 use Rattle.vec_base.specs.declared.value.Value.TheVariants.{Null, Int, Text, Blob, Int8, Bits}
 use Rattle.row_model.specs.ColumnNames.{is_text_key, has_text_key}
 use Rattle.row_model.specs.RepresentableStatements.{AreRepresentable}
-use Rattle.row_model.specs.Schemas.{is_vector, is_partition, count_of, IsValidSchema}
+use Rattle.row_model.specs.Schemas.{is_partition, count_of, IsValidSchema}
 use Rattle.row_model.specs.Valid.{is_valid_value, are_valid_values}
 use Rattle.row_model.specs.declared.schema.Column.{Column}
 use Rattle.row_model.specs.declared.schema.Kind.{Kind}
-use Rattle.row_model.specs.declared.schema.Kind.TheVariants.{IntKey, TextKey, Int8Vector, BitVector, IntPartition, TextPartition, IntMeta, TextMeta, BoolMeta, IntAux, TextAux, BlobAux}
 use Rattle.row_model.specs.declared.schema.Schema.{Schema}
 use Rattle.row_model.proofs.BoolLaws.{or_first, or_second}
 use Rattle.row_model.proofs.SchemaLaws.{faultless}
 use Rattle.shadow_records.specs.PlacedTables.{partition_of}
 use Rattle.row_chunks.specs.Cells.{cells_of, is_cell}
-use Rattle.chunk_slots.specs.Slots.{vector_of, vectors_of}
-use Rattle.table_version.specs.inner.Weaving.{next_value, past, woven_value, woven}
-use Rattle.table_version.specs.Kept.{text_in, id_in, is_partition_value}
+use Rattle.chunk_slots.specs.Slots.{vectors_of}
+use Rattle.table_version.specs.Kept.{text_in, id_in}
 
 -- ---- what holds of all values
 

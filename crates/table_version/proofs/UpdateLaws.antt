@@ -1,16 +1,16 @@
 -- What an update asks of a store, and what the store makes of it.
-use Rattle.std.proofs.Common.{◌≡◌, ℕ, zero, suc, ℤ, pos, ◌+◌, ◌-◌, ◌<◌, ◌≤◌, ◌^◌, Bool, true, false, cond, List, [], ◌∷◌, ◌∙◌, refl, sym, ap, ap₂, subst, arith, length, Option, Some, None}
-use Rattle.std.specs.Prelude.{◌||◌, find, is_some, nat_lt, slice_index, slice_index_or, sum_by, if◌then◌else◌}
-use Rattle.std.specs.List.{cons_option, list_all, slice_get}
+use Rattle.std.proofs.Common.{◌≡◌, ℕ, zero, suc, ℤ, pos, ◌+◌, ◌-◌, ◌≤◌, Bool, true, false, cond, List, [], ◌∷◌, ◌∙◌, refl, sym, ap, subst, arith, Option, Some, None}
+use Rattle.std.specs.Prelude.{◌||◌, find, is_some, nat_lt, slice_index_or, sum_by, if◌then◌else◌}
+use Rattle.std.specs.List.{cons_option, slice_get}
 use Rattle.std.specs.Option.{option_map}
 use Rattle.std.specs.Ordering.{int_eq}
-use Rattle.std.proofs.lemmas.Bool.{and_parts, cases_Bool}
+use Rattle.std.proofs.lemmas.Bool.{and_parts}
 use Rattle.std.proofs.lemmas.List.Sums.{sum_by-cons}
 use Rattle.vec_base.specs.Representable.{IsRepresentable}
 use Rattle.vec_base.specs.declared.value.Value.{Value}
 use Rattle.vec_base.specs.declared.value.Value.TheVariants.{Null, Int, Text, Blob, Int8, Bits}
 use Rattle.chunk_slots.specs.Slots.{vector_of}
-use Rattle.row_chunks.specs.Cells.{is_cell, is_cell_value, kinds_of, takes_value}
+use Rattle.row_chunks.specs.Cells.{is_cell, is_cell_value, kinds_of}
 use Rattle.row_model.specs.Change.{rows_side_bytes}
 use Rattle.row_model.specs.Groups.{before_in, kind_in}
 use Rattle.row_model.specs.Schemas.{count_of, is_key, is_vector}
@@ -24,22 +24,21 @@ use Rattle.row_model.specs.declared.schema.Schema.{Schema}
 use Rattle.row_model.proofs.SchemaLaws.{faultless}
 use Rattle.row_model.proofs.ValidityRows.{valid_plainly}
 use Rattle.row_store.specs.StoredRows.{StoredRow, row_of as stored_of, with_cell, with_changed, with_vector}
-use Rattle.row_store.specs.Touches.{HasSameShape, StoreState}
-use Rattle.shadow_records.specs.PlacedTables.{PlacedRow, PlacedTable, plain, plain_rows, row_of}
+use Rattle.row_store.specs.Touches.{StoreState}
+use Rattle.shadow_records.specs.PlacedTables.{PlacedRow, plain, plain_rows}
 use Rattle.table_version.specs.Kept.{vector_width, widths_of}
-use Rattle.table_version.specs.PlacedRows.{changed_placed, table_changed}
+use Rattle.table_version.specs.PlacedRows.{table_changed}
 use Rattle.table_version.specs.Versions.{VersionState}
-use Rattle.table_version.specs.Viewed.{can_set, is_kind_of, kind_numbered}
-use Rattle.table_version.specs.inner.StoredBytes.{bytes_at, cell_bytes_at, stored_bytes}
+use Rattle.table_version.specs.Viewed.{can_set, kind_numbered}
+use Rattle.table_version.specs.inner.StoredBytes.{bytes_at, cell_bytes_at}
 use Rattle.table_version.specs.inner.StoredTables.{placed, placed_rows, table_from, version_of, IsSound}
-use Rattle.table_version.proofs.ChangedLaws.{IsSetting, bytes_after, bytes_before, bytes-kept, cell_settable, cell_stored, sound-changed, table-changed, table_of, vector_settable, vector_stored}
+use Rattle.table_version.proofs.ChangedLaws.{IsSetting, bytes_after, bytes_before, bytes-kept, cell_settable, cell_stored, table-changed, table_of, vector_settable, vector_stored}
 use Rattle.table_version.proofs.RemoveLaws.{bytes_among}
 use Rattle.table_version.proofs.SettingLaws.{vector_in}
-use Rattle.table_version.proofs.SoundLaws.{sides_fit}
 use Rattle.table_version.proofs.StoredLaws.{find-map, placed-of}
 use Rattle.table_version.proofs.ValidityLaws.{found-valid}
-use Rattle.table_version.proofs.ViewLaws.{before_low, cell_low, cell_there}
-use Rattle.table_version.proofs.WeavingLaws.{no_vector, value-width}
+use Rattle.table_version.proofs.ViewLaws.{cell_there}
+use Rattle.table_version.proofs.WeavingLaws.{no_vector}
 
 -- ---- the column that is set
 

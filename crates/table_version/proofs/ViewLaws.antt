@@ -1,5 +1,5 @@
 -- What stands in a column of a stored row.
-use Rattle.std.proofs.Common.{◌≡◌, ℕ, zero, suc, ℤ, ◌+◌, ◌≤◌, ◌<◌, Bool, true, false, cond, List, [], ◌∷◌, ◌∙◌, refl, sym, ap, subst, arith, length, Option, Some, None}
+use Rattle.std.proofs.Common.{◌≡◌, ℕ, zero, suc, ℤ, ◌+◌, ◌<◌, Bool, true, false, cond, List, [], ◌∷◌, ◌∙◌, refl, sym, ap, subst, arith, length, Option, Some, None}
 use Rattle.std.specs.Prelude.{◌-◌, is_some, slice_index_or}
 use Rattle.std.specs.List.{list_all, slice_get, AllByRecursion}
 use Rattle.std.specs.Option.{option_map}
@@ -19,11 +19,11 @@ use Rattle.row_model.specs.declared.schema.Kind.TheVariants.{IntKey, TextKey, In
 use Rattle.row_store.specs.Shown.{shown}
 use Rattle.row_store.specs.StoredRows.{StoredRow, row_of as stored_of}
 use Rattle.row_store.specs.declared.readers.RowRef.{RowRef}
-use Rattle.shadow_records.specs.PlacedTables.{partition_of, plain_rows, row_of, value_in}
+use Rattle.shadow_records.specs.PlacedTables.{plain_rows, row_of, value_in}
 use Rattle.table_version.specs.Kept.{is_partition_value, widths_of}
 use Rattle.table_version.specs.Viewed.{column_value, is_kind_of}
 use Rattle.table_version.specs.inner.StoredTables.{kept_in, placed, placed_rows, GivesAgain}
-use Rattle.table_version.specs.inner.Viewing.{viewed, IsSoundView}
+use Rattle.table_version.specs.inner.Viewing.{viewed}
 use Rattle.table_version.specs.inner.Weaving.{KeptValues, behind, id_text, next_value, next_vector, past, woven, woven_value}
 use Rattle.table_version.proofs.StoredLaws.{found-one, placed-of}
 use Rattle.table_version.proofs.WeavingLaws.{one_if, one_width, partition-values}

@@ -1,20 +1,14 @@
 -- Where what is kept of a row stands that is in one of its columns.
-use Rattle.std.specs.Prelude.{◌≡◌, ℕ, ℤ, true, List, [], Option, is_some, slice_index_or}
+use Rattle.std.specs.Prelude.{◌≡◌, ℤ, true, List, is_some}
 use Rattle.std.specs.List.{list_all}
-use Rattle.row_chunks.specs.Cells.{is_cell, kinds_of}
+use Rattle.row_chunks.specs.Cells.{kinds_of}
 use Rattle.row_chunks.specs.RowSlots.{slot_at}
-use Rattle.row_model.specs.Groups.{before_in}
-use Rattle.row_model.specs.Schemas.{is_partition, is_vector}
 use Rattle.row_model.specs.declared.schema.Column.{Column}
-use Rattle.row_model.specs.declared.schema.Kind.{Kind}
-use Rattle.vec_base.specs.declared.value.Value.{Value}
-use Rattle.vec_base.specs.declared.value.Value.TheVariants.{Null}
 use Rattle.row_store.specs.Shown.{shown}
 use Rattle.row_store.specs.declared.readers.RowRef.{RowRef}
 use Rattle.table_version.specs.Kept.{is_partition_value, widths_of}
 use Rattle.table_version.specs.Viewed.{ViewedRow}
 use Rattle.table_version.specs.inner.StoredTables.{placed}
-use Rattle.table_version.specs.inner.Weaving.{KeptValues, woven_value}
 
 -- the row that is shown
 abbrev pub viewed : List Column → ℤ → RowRef → ViewedRow

@@ -1,7 +1,6 @@
-use Rattle.std.proofs.Common.{rules, ◌∙◌, ◌≡◌, ◌-◌, None, sym, subst}
+use Rattle.std.proofs.Common.{rules, ◌≡◌, ◌-◌, None, sym}
 use Rattle.row_model.specs.Groups.{kind_in}
 use Rattle.row_store.specs.Shown.{shown}
-use Rattle.table_version.specs.inner.StoredTables.{kept_in}
 use Rattle.table_version.proofs.ViewLaws.{column_past}
 use Rattle.table_version.proofs.row_view.RowView.field.Goals as goal
 

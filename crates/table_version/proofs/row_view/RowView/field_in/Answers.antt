@@ -1,7 +1,7 @@
-use Rattle.std.proofs.Common.{rules, arith, ◌∙◌, ◌≡◌, true, sym, ap, subst, length, Some, w64}
+use Rattle.std.proofs.Common.{rules, arith, ◌∙◌, ◌≡◌, sym, ap, subst, length, Some, w64}
 use Rattle.std.specs.Prelude.{slice_index_or}
 use Rattle.std.proofs.lemmas.Int.{to_z-of_z}
-use Rattle.vec_base.specs.declared.value.Value.TheVariants.{Null, Int, Text}
+use Rattle.vec_base.specs.declared.value.Value.TheVariants.{Null, Int}
 use Rattle.row_chunks.specs.Cells.{is_cell}
 use Rattle.row_chunks.specs.RowSlots.{cells_in, slot_at}
 use Rattle.row_model.specs.Groups.{before_in, kind_in}

@@ -1,4 +1,4 @@
-use Rattle.std.proofs.Common.{rules, ◌∙◌, ◌≡◌, ◌-◌, ℕ, true, false, sym, ap, subst, Some, None}
+use Rattle.std.proofs.Common.{rules, ◌∙◌, ◌≡◌, ◌-◌, ℕ, true, false, sym, ap, subst, Some}
 use Rattle.std.specs.Prelude.{is_some, slice_index_or}
 use Rattle.std.specs.List.{slice_get}
 use Rattle.row_chunks.specs.Cells.{is_cell, kinds_of, takes_test}

@@ -1,10 +1,9 @@
-use Rattle.std.proofs.Common.{rules, arith, ◌∙◌, ◌≡◌, ◌+◌, ◌-◌, ◌<◌, ◌≤◌, ◌^◌, ℕ, Bool, true, sym, ap, subst, length, Some}
+use Rattle.std.proofs.Common.{rules, arith, ◌∙◌, ◌≡◌, ◌+◌, ◌-◌, ◌<◌, ◌≤◌, ◌^◌, ℕ, Bool, true, sym, ap, subst, length}
 use Rattle.std.specs.Prelude.{is_some, if◌then◌else◌}
 use Rattle.std.specs.List.{slice_get}
 use Rattle.row_chunks.specs.Cells.{is_cell, kinds_of, takes_value}
-use Rattle.row_model.specs.Groups.{before_in, kind_in}
+use Rattle.row_model.specs.Groups.{before_in}
 use Rattle.row_model.specs.Values.{side_bytes}
-use Rattle.row_model.specs.declared.schema.Kind.{Kind}
 use Rattle.row_store.specs.StoredRows.{row_of as stored_of, with_cell, with_changed}
 use Rattle.table_version.specs.Versions.{VersionState}
 use Rattle.table_version.specs.Viewed.{can_set, is_kind_of, kind_numbered}

@@ -1,6 +1,6 @@
 use Rattle.std.proofs.Common.{rules, arith, ◌∙◌, ◌≡◌, ◌-◌, ℕ, pos, true, sym, ap, subst, length, List}
 use Rattle.std.specs.Prelude.{slice_index}
-use Rattle.row_model.specs.Groups.{before_in, kind_in}
+use Rattle.row_model.specs.Groups.{before_in}
 use Rattle.row_model.specs.Schemas.{is_vector}
 use Rattle.row_model.proofs.ValidityRows.{valid_plainly}
 use Rattle.row_store.specs.StoredRows.{with_changed, with_vector}
