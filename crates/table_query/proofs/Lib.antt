@@ -1,3 +1,4 @@
+pub mod AnswerLaws
 pub mod FindLaws
 pub mod ItemLaws
 pub mod PointLaws

@@ -1,0 +1,2 @@
+-- FourColumns: the columns of the tables that are tested.
+pub mod FourColumns
