@@ -38,7 +38,13 @@ pub(crate) fn value_met(column: &PlannedColumn, test: &Test, values: &[Value]) -
 }
 
 /// Clears the bits of a chunk's rows that do not meet a term, where that is on metadata.
-fn filter_by(table: &TableVersion, chunk: u32, column: PlannedColumn, term: &Constraint, keep: &mut Bitmap)
+fn filter_by(
+    table: &TableVersion,
+    chunk: u32,
+    column: PlannedColumn,
+    term: &Constraint,
+    keep: &mut Bitmap,
+)
     requires there { is_some (first_in table.now.table.rows chunk) ≡ true }
     requires column { column ≡ term_column table.now.table.schema.columns term.now }
     requires fits { IsTermFor table.now.table.schema.columns true term.now }
@@ -76,7 +82,10 @@ fn is_on_rows(column: PlannedColumn, test: &Test) -> bool
     ensures { result ≡ is_on_rows column.place test.now }
 {
     let on_chunks = column.has_role(Role::Partition) || column.has_role(Role::Metadata);
-    !(matches!(test, Test::Match(_)) || column.place.is_count() || column.place.is_distance() || on_chunks)
+    !(matches!(test, Test::Match(_))
+        || column.place.is_count()
+        || column.place.is_distance()
+        || on_chunks)
 }
 
 /// Whether the value in a column of the row of a rowid passes a test.

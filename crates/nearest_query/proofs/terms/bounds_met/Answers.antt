@@ -1,4 +1,4 @@
-use Rattle.std.proofs.Common.{◌≡◌, ◌∙◌, sym}
+use Rattle.std.proofs.Common.{◌∙◌, sym}
 use Rattle.knn_plan.proofs.LevelLaws.{bounds_met}
 use Rattle.nearest_query.proofs.terms.bounds_met.Goals as goal
 

@@ -1,4 +1,4 @@
-use Rattle.std.proofs.Common.{◌≡◌, ◌∙◌, sym}
+use Rattle.std.proofs.Common.{◌∙◌, sym}
 use Rattle.knn_plan.proofs.LevelLaws.{rest_met}
 use Rattle.nearest_query.proofs.terms.rest_met.Goals as goal
 
