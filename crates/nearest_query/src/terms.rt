@@ -141,13 +141,14 @@ fn row_terms_met(table: &TableVersion, plan: &Plan, rowid: &i64) -> bool
     true
 }
 
-/// Whether the row of a rowid meets the terms that are tested row by row.
+/// Whether the row of a rowid meets the terms that are tested row by row. The flag says whether there are any.
 #[inline]
-pub(crate) fn rest_met(table: &TableVersion, plan: &Plan, rowid: &i64) -> bool
+pub(crate) fn rest_met(table: &TableVersion, plan: &Plan, by_row: bool, rowid: &i64) -> bool
+    requires by_row { by_row ≡ plan.now.by_row }
     requires ready { (target : PlannedTarget) × IsReady table.now.table plan.now target }
     ensures { (placed : PlacedRow) → row_of table.now.table.rows rowid.now ≡ Some placed → result ≡ list_all (meets_rest table.now.table.schema.columns placed.row) plan.now.select.where_terms }
 {
-    if !plan.is_by_row() {
+    if !by_row {
         return true;
     }
     row_terms_met(table, plan, rowid)
@@ -177,13 +178,14 @@ fn distance_terms_met(plan: &Plan, distance: u32) -> bool
     true
 }
 
-/// Whether a distance meets the terms on it.
+/// Whether a distance meets the terms on it. The flag says whether there are any.
 #[inline]
-pub(crate) fn bounds_met(plan: &Plan, distance: u32) -> bool
+pub(crate) fn bounds_met(plan: &Plan, by_distance: bool, distance: u32) -> bool
+    requires by_distance { by_distance ≡ plan.now.by_distance }
     requires columns { length plan.now.terms ≡ length plan.now.select.where_terms }
     ensures { (columns : List Column) → IsPlanFor columns plan.now → result ≡ list_all (meets_bound columns distance) plan.now.select.where_terms }
 {
-    if !plan.is_by_distance() {
+    if !by_distance {
         return true;
     }
     distance_terms_met(plan, distance)

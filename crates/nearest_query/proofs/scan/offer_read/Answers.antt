@@ -39,8 +39,8 @@ pub distance_to-distance-requires-clause-short : goal.distance_to-distance-requi
 distance_to-distance-requires-clause-short c =
     (comparable_at c.args.table.now.table c.args.plan.now c.args.target.now c.requires.ready c.args.chunk c.args.slot c.requires.row.0 c.requires.row.1.0).short
 
-pub bounds_met-requires : goal.bounds_met-requires
-bounds_met-requires c = record { columns = columns_long c.args.table.now.table.schema.columns c.args.plan.now.select.where_terms c.args.plan.now.terms c.requires.ready.plan_for.terms }
+pub bounds_met-requires-clause-columns : goal.bounds_met-requires-clause-columns
+bounds_met-requires-clause-columns c = columns_long c.args.table.now.table.schema.columns c.args.plan.now.select.where_terms c.args.plan.now.terms c.requires.ready.plan_for.terms
 
 pub returns-then-not-bounds_met-clause-best : goal.returns-then-not-bounds_met-clause-best
 returns-then-not-bounds_met-clause-best c p there =
