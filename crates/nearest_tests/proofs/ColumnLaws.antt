@@ -1,5 +1,5 @@
 -- The columns of the tests make a valid schema, and the name of the tests is one.
-use Rattle.std.proofs.Common.{◌≡◌, ℕ, List, true, codes, refl, ap, ◌∙◌, None}
+use Rattle.std.proofs.Common.{◌≡◌, ℕ, List, true, codes, refl, ap, ◌∙◌}
 use Rattle.std.specs.List.{list_all}
 use Rattle.vec_base.specs.Words.{is_name, is_reserved}
 use Rattle.row_model.specs.Schemas.{IsValidSchema, schema_fault}
