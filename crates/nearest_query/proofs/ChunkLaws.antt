@@ -1,6 +1,6 @@
 -- The chunks whose partition values meet the terms.
-use Rattle.std.proofs.Common.{◌≡◌, ℕ, zero, suc, ◌+◌, ◌<◌, ◌≤◌, Bool, true, false, not, cond, List, [], ◌∷◌, ◌++◌, length, get_or, refl, sym, ap, ap₂, ◌∙◌, arith, Some, None, Option, inl, inr, subst}
-use Rattle.std.specs.Prelude.{◌&&◌, ◌||◌, ◌==◌, ◌^◌, if◌then◌else◌, is_some, map, nat_lt, slice_index_or}
+use Rattle.std.proofs.Common.{◌≡◌, ℕ, zero, suc, ◌+◌, ◌<◌, Bool, true, false, cond, List, [], ◌∷◌, ◌++◌, refl, sym, ap, ap₂, ◌∙◌, arith, Some, None, Option, inl, inr}
+use Rattle.std.specs.Prelude.{◌&&◌, ◌==◌, ◌^◌, if◌then◌else◌, is_some, nat_lt}
 use Rattle.std.specs.List.{list_all, AllByRecursion}
 use Rattle.std.specs.Option.{option_map}
 use Rattle.std.proofs.lemmas.Bool.{and_parts, cases_Bool, false≢true}
@@ -8,7 +8,6 @@ use Rattle.std.proofs.lemmas.List.{append-nil}
 use Rattle.std.proofs.lemmas.Bool.Decides.{nat_tests}
 use Rattle.vec_base.specs.declared.value.Value.{Value}
 use Rattle.row_model.specs.Schemas.{is_partition}
-use Rattle.row_model.specs.declared.schema.Column.{Column}
 use Rattle.row_model.specs.declared.statement.Constraint.{Constraint}
 use Rattle.knn_plan.specs.Levels.{meets_on}
 use Rattle.knn_plan.specs.PlannedColumns.{term_column}
@@ -31,7 +30,7 @@ alike_met table terms placed p q c s d t at_p at_q alike =
     let columns = table.schema.columns in
     list_all-same (meets_on is_partition columns p.row) (meets_on is_partition columns q.row) terms
     (λ term. sym (value_met table term (term_column columns term) (partition_in columns q) c s p refl placed.valid.values at_p (sym alike))
-      ∙ value_met table term (term_column columns term) (partition_in columns q) d t q refl placed.valid.values at_q refl)
+    ∙ value_met table term (term_column columns term) (partition_in columns q) d t q refl placed.valid.values at_q refl)
 
 wanted_from : (table : PlacedTable) (terms : List Constraint) (c : ℕ) (o : Option PlacedRow) → first_in table.rows c ≡ o → IsPlaced table → (p : PlacedRow) (s : ℕ) → row_at table.rows c s ≡ Some p →
     meets_all_on_partition table terms p ≡ on_row (meets_all_on_partition table terms) o

@@ -1,30 +1,29 @@
 -- What a search over chunks finds is what a SELECT with a MATCH answers.
-use Rattle.std.proofs.Common.{◌≡◌, ℕ, zero, suc, ◌+◌, ◌<◌, ◌≤◌, Bool, true, false, cond, List, [], ◌∷◌, ◌++◌, length, refl, sym, ap, ap₂, ◌∙◌, arith, Some, None, Option, inl, inr, take, subst}
+use Rattle.std.proofs.Common.{◌≡◌, ℕ, zero, suc, ◌<◌, Bool, true, false, cond, List, [], ◌∷◌, ◌++◌, length, refl, sym, ap, ap₂, ◌∙◌, arith, Some, None, Option, inl, inr, take}
 use Rattle.std.specs.Prelude.{◌&&◌, if◌then◌else◌, flat_map, map, filter, int_lt}
 use Rattle.std.specs.List.{list_all, AllByRecursion}
-use Rattle.std.proofs.lemmas.Bool.{and_parts, false≢true, cases_Bool}
-use Rattle.std.proofs.lemmas.List.{append-nil, length-append, length-map}
+use Rattle.std.proofs.lemmas.Bool.{and_parts, cases_Bool}
+use Rattle.std.proofs.lemmas.List.{append-nil, length-map}
 use Rattle.std.proofs.lemmas.List.Concat.{flat_map-append}
 use Rattle.vec_base.specs.Ranks.{all_placed, first_ranked, placed as put}
 use Rattle.vec_base.specs.inner.Offers.{offered}
 use Rattle.vec_base.specs.inner.StrictOrders.{IsInOrder}
-use Rattle.vec_base.proofs.RankLaws.{each-filter, first_ranked-map}
-use Rattle.row_model.specs.Answer.{Near, Target, near_of, near_to, target_of, count_wanted, chosen, counted, counts, is_before as near_before}
+use Rattle.vec_base.proofs.RankLaws.{first_ranked-map}
+use Rattle.row_model.specs.Answer.{Target, near_to, chosen, counted, counts, is_before as near_before}
 use Rattle.row_model.specs.Rows.{is_rising}
 use Rattle.row_model.specs.Schemas.{is_metadata, is_partition}
 use Rattle.row_model.specs.declared.row.Row.{Row}
 use Rattle.row_model.specs.declared.schema.Column.{Column}
 use Rattle.row_model.specs.declared.statement.Constraint.{Constraint}
-use Rattle.row_model.specs.declared.statement.Select.{Select}
-use Rattle.knn_plan.specs.Levels.{meets_on, meets_rest, meets_bound}
+use Rattle.knn_plan.specs.Levels.{meets_on, meets_rest}
 use Rattle.knn_plan.specs.Plans.{Planned, PlannedTarget, planned_target}
 use Rattle.shadow_records.specs.PlacedTables.{PlacedRow, PlacedTable, IsPlaced, is_place, plain_rows, row_at}
 use Rattle.topk_merge.specs.declared.hit.Hit.{Hit}
 use Rattle.topk_merge.specs.Hits.{is_before}
 use Rattle.topk_merge.proofs.HitLaws.{hit_order, same_hit, offered_hits, rising_ranked}
 use Rattle.topk_merge.proofs.OrderLaws.{all_placed-append, offered-all, placed-all}
-use Rattle.nearest_query.specs.Gathered.{up_to, found, found_in, gathered}
-use Rattle.nearest_query.specs.Searches.{IsReady, above_chunks, hit_of, hits_in, hits_over, is_read, is_read_row, is_wanted, is_within, meets_all_on_partition, nearest_hits, one_if_wanted, read_rows, row_hit, wanted_below, wanted_chunks}
+use Rattle.nearest_query.specs.Gathered.{found, gathered}
+use Rattle.nearest_query.specs.Searches.{IsReady, above_chunks, hit_of, hits_in, hits_over, is_read, is_read_row, is_wanted, is_within, nearest_hits, one_if_wanted, read_rows, row_hit, wanted_below, wanted_chunks}
 use Rattle.nearest_query.proofs.ChunkLaws.{above-is, place_parts, wanted-row}
 use Rattle.nearest_query.proofs.Gathering.{IsShuffle, filter-gathered, gathered-shuffle, length-shuffle, up_to-none}
 use Rattle.nearest_query.proofs.PlaceLaws.{are_free}
@@ -43,7 +42,7 @@ unwanted_at table terms f c s (Some p) is placed fails =
     let columns = table.schema.columns in
     let none = wanted-row table terms c placed p s is ∙ fails in
     let all : is_read columns terms p.row ≡ false =
-      read_by_levels columns p.row terms ∙ first_false (list_all (meets_on is_partition columns p.row) terms) (list_all (meets_on is_metadata columns p.row) terms) (list_all (meets_rest columns p.row) terms) none in
+    read_by_levels columns p.row terms ∙ first_false (list_all (meets_on is_partition columns p.row) terms) (list_all (meets_on is_metadata columns p.row) terms) (list_all (meets_rest columns p.row) terms) none in
     ap (λ b. if b then f p ∷ [] else []) all
 
 unwanted : (table : PlacedTable) (terms : List Constraint) (target : PlannedTarget) (c : ℕ) → IsPlaced table → is_wanted table terms c ≡ false → hits_in table terms target c ≡ []
@@ -152,8 +151,8 @@ found_hits table plan t k placed =
     ∙ ap (offered is_before k []) (filter-gathered (is_read_row table terms) (is_within columns terms) (row_hit target) table.rows size above_chunks)
     ∙ offered_shuffled k (map (row_hit target) (filter test table.rows)) (gathered test (row_hit target) table.rows size above_chunks) (shuffled table test (row_hit target) placed)
     ∙ ap (offered is_before k []) (same_filter test (λ p. counts_row p.row) (row_hit target) table.rows (λ p. sym (counts_read columns terms (near_to t p.row)))
-      ∙ hits_plain t (filter (λ p. counts_row p.row) table.rows) columns
-      ∙ ap (λ rows. map hit_of (map (near_to t) rows)) (sym (filter_map-row counts_row table.rows)))
+    ∙ hits_plain t (filter (λ p. counts_row p.row) table.rows) columns
+    ∙ ap (λ rows. map hit_of (map (near_to t) rows)) (sym (filter_map-row counts_row table.rows)))
     ∙ offered_hits k (map hit_of nears) (rising_ranked (map hit_of nears) (rising_hits t counts_row (plain_rows table.rows) placed.valid.rising))
     ∙ first_ranked-map hit_of is_before k nears
 

@@ -1,8 +1,8 @@
 -- The rows that pass, found place by place, are the rows that pass, in another order.
-use Rattle.std.proofs.Common.{◌≡◌, ℕ, zero, suc, ◌+◌, ◌≤◌, ◌<◌, ◌*◌, Bool, true, false, cond, List, [], ◌∷◌, ◌++◌, length, refl, sym, ap, ap₂, ◌∙◌, arith, inl, inr, subst, Some, None, Option}
+use Rattle.std.proofs.Common.{◌≡◌, ℕ, zero, suc, ◌≤◌, ◌<◌, Bool, true, false, cond, List, [], ◌∷◌, ◌++◌, length, refl, sym, ap, ap₂, ◌∙◌, arith, inl, inr, subst, Some, None, Option}
 use Rattle.std.specs.Prelude.{⊤, filter, map, ◌==◌, ◌&&◌}
 use Rattle.std.specs.List.{AllByRecursion}
-use Rattle.std.proofs.lemmas.Bool.{cases_Bool, cases_lt, cases_eq, false≢true}
+use Rattle.std.proofs.lemmas.Bool.{cases_Bool, cases_lt}
 use Rattle.std.proofs.lemmas.List.{append-nil, length-append}
 use Rattle.shadow_records.specs.PlacedTables.{PlacedRow, is_at, row_at}
 use Rattle.nearest_query.specs.Gathered.{up_to, found, found_in, gathered}
@@ -42,15 +42,21 @@ up_to-with x f g i (suc n) less here same =
     elim (cases_lt i n) [
       | inl below ↦
           let rest = up_to-with x f g i n below here (λ j lt differ. same j (omega arith) differ) in
-          let last : f n ≡ g n = same n (omega arith) (λ e. absurd (omega arith)) in
-          (rest.0, rest.1 ++ f n, ap (λ l. l ++ f n) rest.2 ∙ append-append rest.0 rest.1 (f n),
-           ap₂ (λ l r. l ++ r) rest.3 (sym last) ∙ append-append rest.0 (x ∷ rest.1) (f n))
+          let last : f n ≡ g n = same n (omega arith) (λ e. absurd (omega arith)) in (
+            rest.0,
+            rest.1 ++ f n,
+            ap (λ l. l ++ f n) rest.2 ∙ append-append rest.0 rest.1 (f n),
+            ap₂ (λ l r. l ++ r) rest.3 (sym last) ∙ append-append rest.0 (x ∷ rest.1) (f n),
+          )
       | inr above ↦
           let is : i ≡ n = omega arith in
           let at : IsWith x (f n) (g n) = subst (λ k. IsWith x (f k) (g k)) is here in
-          let before : up_to f n ≡ up_to g n = up_to-same f g n (λ j lt. same j (omega arith) (λ e. absurd (omega arith))) in
-          (up_to f n ++ at.0, at.1, ap (λ l. up_to f n ++ l) at.2 ∙ sym (append-append (up_to f n) at.0 at.1),
-           ap₂ (λ l r. l ++ r) (sym before) at.3 ∙ sym (append-append (up_to f n) at.0 (x ∷ at.1)))
+          let before : up_to f n ≡ up_to g n = up_to-same f g n (λ j lt. same j (omega arith) (λ e. absurd (omega arith))) in (
+            up_to f n ++ at.0,
+            at.1,
+            ap (λ l. up_to f n ++ l) at.2 ∙ sym (append-append (up_to f n) at.0 at.1),
+            ap₂ (λ l r. l ++ r) (sym before) at.3 ∙ sym (append-append (up_to f n) at.0 (x ∷ at.1)),
+          )
     ]
 
 -- numbers that give nothing may be left out
@@ -80,25 +86,28 @@ not-there p c s differ =
 found-more : {A : Type 0} (test : PlacedRow → Bool) (f : PlacedRow → A) (p : PlacedRow) (rows : List PlacedRow) (size n : ℕ) → test p ≡ true → row_at rows p.chunk p.slot ≡ None → p.chunk < n → p.slot < size → IsWith (f p) (gathered test f rows size n) (gathered test f (p ∷ rows) size n)
 found-more test f p rows size n passes free chunk slot =
     up_to-with (f p) (found_in test f rows size) (found_in test f (p ∷ rows) size) p.chunk n chunk
-    (up_to-with (f p) (λ s. found test f (row_at rows p.chunk s)) (λ s. found test f (row_at (p ∷ rows) p.chunk s)) p.slot size slot
-      ([], [], ap (found test f) free,
-       ap (λ b. found test f (cond b (Some p) (row_at rows p.chunk p.slot))) (at-itself p.chunk p.slot) ∙ ap (λ b. cond b (f p ∷ []) []) passes)
-      (λ s lt differ. ap (found test f) (sym (at-other p rows p.chunk s (not-there p p.chunk s (λ same. differ (sym same.1)))))))
+    (up_to-with (f p) (λ s. found test f (row_at rows p.chunk s)) (λ s. found test f (row_at (p ∷ rows) p.chunk s)) p.slot size slot (
+      [],
+      [],
+      ap (found test f) free,
+      ap (λ b. found test f (cond b (Some p) (row_at rows p.chunk p.slot))) (at-itself p.chunk p.slot) ∙ ap (λ b. cond b (f p ∷ []) []) passes,
+    )
+    (λ s lt differ. ap (found test f) (sym (at-other p rows p.chunk s (not-there p p.chunk s (λ same. differ (sym same.1)))))))
     (λ c lt differ. up_to-same (λ s. found test f (row_at rows c s)) (λ s. found test f (row_at (p ∷ rows) c s)) size
-      (λ s lt2. ap (found test f) (sym (at-other p rows c s (not-there p c s (λ same. differ (sym same.0)))))))
+    (λ s lt2. ap (found test f) (sym (at-other p rows c s (not-there p c s (λ same. differ (sym same.0)))))))
 
 found-as_before : {A : Type 0} (test : PlacedRow → Bool) (f : PlacedRow → A) (p : PlacedRow) (rows : List PlacedRow) (size n : ℕ) → test p ≡ false → row_at rows p.chunk p.slot ≡ None → gathered test f rows size n ≡ gathered test f (p ∷ rows) size n
 found-as_before test f p rows size n fails free =
     up_to-same (found_in test f rows size) (found_in test f (p ∷ rows) size) n
     (λ c lt. up_to-same (λ s. found test f (row_at rows c s)) (λ s. found test f (row_at (p ∷ rows) c s)) size
-      (λ s lt2. elim (cases_Bool (is_at c s p)) [
-        | inr away ↦ ap (found test f) (sym (at-other p rows c s away))
-        | inl there ↦
-            let chunk : p.chunk ≡ c = grind (arith, there) in
-            let slot : p.slot ≡ s = grind (arith, there) in
-            let none : row_at rows c s ≡ None = subst (λ d. row_at rows d s ≡ None) chunk (subst (λ t. row_at rows p.chunk t ≡ None) slot free) in
-            ap (found test f) none ∙ sym (ap (λ b. found test f (cond b (Some p) (row_at rows c s))) there ∙ ap (λ b. cond b (f p ∷ []) []) fails)
-      ]))
+    (λ s lt2. elim (cases_Bool (is_at c s p)) [
+      | inr away ↦ ap (found test f) (sym (at-other p rows c s away))
+      | inl there ↦
+          let chunk : p.chunk ≡ c = grind (arith, there) in
+          let slot : p.slot ≡ s = grind (arith, there) in
+          let none : row_at rows c s ≡ None = subst (λ d. row_at rows d s ≡ None) chunk (subst (λ t. row_at rows p.chunk t ≡ None) slot free) in
+          ap (found test f) none ∙ sym (ap (λ b. found test f (cond b (Some p) (row_at rows c s))) there ∙ ap (λ b. cond b (f p ∷ []) []) fails)
+    ]))
 
 -- The law of the search: place by place the same rows are found.
 pub gathered-shuffle : {A : Type 0} (test : PlacedRow → Bool) (f : PlacedRow → A) (rows : List PlacedRow) (size n : ℕ) → AreFree rows → AllByRecursion (λ p. (p.chunk < n) × (p.slot < size)) rows → IsShuffle (map f (filter test rows)) (gathered test f rows size n)
@@ -145,4 +154,4 @@ pub filter-gathered : {A : Type 0} (test : PlacedRow → Bool) (more : A → Boo
 filter-gathered test more f rows size n =
     filter-up_to more (found_in test f rows size) (found_in (λ p. test p && more (f p)) f rows size) n
     (λ c. filter-up_to more (λ s. found test f (row_at rows c s)) (λ s. found (λ p. test p && more (f p)) f (row_at rows c s)) size
-      (λ s. filter-found test more f (row_at rows c s)))
+    (λ s. filter-found test more f (row_at rows c s)))

@@ -1,10 +1,9 @@
 -- Pieces that share the chunks.
-use Rattle.std.proofs.Common.{◌≡◌, ℕ, zero, suc, ◌+◌, ◌-◌, ◌/◌, ◌<◌, ◌≤◌, Bool, List, [], ◌∷◌, ◌++◌, length, take, drop, refl, sym, ap, ap₂, ◌∙◌, arith}
+use Rattle.std.proofs.Common.{◌≡◌, ℕ, zero, suc, ◌+◌, ◌/◌, ◌≤◌, List, [], ◌∷◌, ◌++◌, length, take, drop, refl, sym, ap, ap₂, ◌∙◌, arith}
 use Rattle.std.specs.Prelude.{map, filter, flat_map, min}
 use Rattle.std.proofs.lemmas.List.{append-nil, append_assoc, take-append-drop, length-append, drop_all, length-map}
 use Rattle.std.proofs.lemmas.List.Concat.{flat_map-append}
 use Rattle.vec_base.specs.Counts.{raised, summed}
-use Rattle.vec_base.specs.Ranks.{all_placed}
 use Rattle.vec_base.specs.declared.limits.TheConstants.{LAST_COUNT}
 use Rattle.vec_base.specs.inner.Offers.{offered}
 use Rattle.knn_plan.specs.Plans.{Planned, PlannedTarget}

@@ -1,16 +1,16 @@
 -- Rows that are found at places, in chunks and by rowids.
-use Rattle.std.proofs.Common.{◌≡◌, ℕ, zero, suc, ℤ, ◌+◌, ◌≤◌, ◌<◌, Bool, true, false, cond, List, [], ◌∷◌, length, get_or, refl, sym, ap, ap₂, ◌∙◌, arith, inl, inr, subst, Some, None, Option}
-use Rattle.std.specs.Prelude.{⊤, AllPairs, ◌==◌, ◌&&◌, ◌^◌, find, int_lt, map, nat_lt}
+use Rattle.std.proofs.Common.{◌≡◌, ℕ, suc, ℤ, ◌<◌, Bool, true, false, cond, List, [], ◌∷◌, length, get_or, refl, sym, ap, ◌∙◌, arith, inl, inr, subst, Some, None}
+use Rattle.std.specs.Prelude.{⊤, AllPairs, ◌==◌, find, int_lt}
 use Rattle.std.specs.List.{list_all, AllByRecursion}
 use Rattle.std.specs.Ordering.{int_eq}
-use Rattle.std.proofs.lemmas.Bool.{and_parts, cases_Bool, false≢true}
+use Rattle.std.proofs.lemmas.Bool.{and_parts, cases_Bool}
 use Rattle.std.proofs.lemmas.Cmp.{int_eq_equiv}
 use Rattle.std.proofs.lemmas.Int.{ints}
 use Rattle.vec_base.proofs.RankLaws.{each_anyway}
 use Rattle.row_model.specs.Rows.{is_rising}
 use Rattle.row_model.specs.declared.row.Row.{Row}
 use Rattle.row_model.specs.declared.schema.Column.{Column}
-use Rattle.shadow_records.specs.PlacedTables.{PlacedRow, PlacedTable, IsPlaced, AreAlike, AreApart, first_in, is_at, is_place, partition_of, plain_rows, row_at, row_of}
+use Rattle.shadow_records.specs.PlacedTables.{PlacedRow, AreAlike, AreApart, first_in, is_at, partition_of, plain_rows, row_at, row_of}
 use Rattle.table_version.proofs.StoredLaws.{found-one}
 use Rattle.nearest_query.proofs.Gathering.{AreFree}
 

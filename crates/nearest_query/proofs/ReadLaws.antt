@@ -1,5 +1,5 @@
 -- A row's vector is read where its partition values, its metadata and the rest of it meet the terms.
-use Rattle.std.proofs.Common.{◌≡◌, ℕ, Bool, true, false, not, ◌&&◌, ◌||◌, List, [], ◌∷◌, refl, sym, ap, ap₂, ◌∙◌}
+use Rattle.std.proofs.Common.{◌≡◌, Bool, true, false, not, ◌&&◌, ◌||◌, List, [], ◌∷◌, refl, sym, ap, ap₂, ◌∙◌}
 use Rattle.std.specs.List.{list_all}
 use Rattle.row_model.specs.Answer.{Near, counts}
 use Rattle.row_model.specs.ColumnNames.{is_distance, is_of, place_of}
@@ -13,7 +13,7 @@ use Rattle.row_model.specs.declared.statement.Constraint.{Constraint}
 use Rattle.knn_plan.specs.Levels.{meets_on, meets_rest, meets_bound}
 use Rattle.knn_plan.specs.TermUses.{is_on_chunks}
 use Rattle.knn_plan.proofs.LevelLaws.{counts_by_levels}
-use Rattle.nearest_query.specs.Searches.{is_read, meets_before}
+use Rattle.nearest_query.specs.Searches.{is_read}
 
 by_sorts : (p m b : Bool) → b ≡ (((not p || b) && (not m || b)) && ((p || m) || b))
 by_sorts true true true = refl

@@ -1,30 +1,29 @@
 -- What is found at a slot, and what is found one after another.
-use Rattle.std.proofs.Common.{◌≡◌, ℕ, zero, suc, ℤ, ◌+◌, ◌<◌, ◌≤◌, Bool, true, false, not, cond, List, [], ◌∷◌, length, refl, sym, ap, ap₂, ◌∙◌, arith, Some, None, Option, subst, take, ◌++◌, get_or, add-one, inl, inr}
-use Rattle.std.specs.Prelude.{◌&&◌, ◌||◌, if◌then◌else◌, slice_index_or, filter, flat_map, map, is_some}
+use Rattle.std.proofs.Common.{◌≡◌, ℕ, zero, suc, ℤ, ◌+◌, ◌<◌, Bool, true, false, cond, List, [], ◌∷◌, length, refl, sym, ap, ap₂, ◌∙◌, arith, Some, None, Option, take, ◌++◌, get_or, add-one}
+use Rattle.std.specs.Prelude.{◌&&◌, if◌then◌else◌, slice_index_or, filter, flat_map, map, is_some}
 use Rattle.std.specs.List.{list_all}
 use Rattle.std.specs.Option.{option_map}
-use Rattle.std.proofs.lemmas.Bool.{cases_Bool, false≢true}
+use Rattle.std.proofs.lemmas.Bool.{false≢true}
 use Rattle.std.proofs.lemmas.List.{append-nil, length-append, take_more, get_or-map}
 use Rattle.std.proofs.lemmas.List.Concat.{flat_map-append}
 use Rattle.vec_base.specs.Counts.{raised}
 use Rattle.vec_base.specs.Ranks.{placed}
 use Rattle.vec_base.specs.inner.Offers.{offered}
 use Rattle.vec_base.proofs.RankLaws.{offered-append}
-use Rattle.chunk_slots.specs.Slots.{Slots, UsedSlot, rowid_of, slot_at, vector_at, vectors_in, vectors_of}
+use Rattle.chunk_slots.specs.Slots.{Slots, UsedSlot, rowid_of, slot_at, vector_at, vectors_in}
 use Rattle.row_model.specs.Answer.{distance_at, vector_of as bytes_of}
-use Rattle.row_model.specs.Schemas.{is_metadata, is_partition}
 use Rattle.row_model.specs.Values.{value_at}
 use Rattle.row_model.specs.declared.schema.Column.{Column}
 use Rattle.row_model.specs.declared.statement.Constraint.{Constraint}
-use Rattle.knn_plan.specs.Levels.{meets_bound, meets_on, meets_rest}
+use Rattle.knn_plan.specs.Levels.{meets_bound, meets_rest}
 use Rattle.knn_plan.specs.Plans.{Planned, PlannedTarget}
-use Rattle.shadow_records.specs.PlacedTables.{PlacedRow, PlacedTable, first_in, row_at}
+use Rattle.shadow_records.specs.PlacedTables.{PlacedRow, PlacedTable, row_at}
 use Rattle.table_version.specs.Versions.{slot_of_row}
 use Rattle.topk_merge.specs.declared.hit.Hit.{Hit}
 use Rattle.topk_merge.specs.Hits.{is_before}
 use Rattle.topk_merge.specs.Ranking.{Ranking}
 use Rattle.nearest_query.specs.Gathered.{up_to, found}
-use Rattle.nearest_query.specs.Searches.{IsReady, is_read, is_read_row, is_within, meets_all_on_metadata, meets_all_on_partition, on_row, row_hit, ticked, with_offers}
+use Rattle.nearest_query.specs.Searches.{IsReady, is_read_row, is_within, meets_all_on_metadata, meets_all_on_partition, on_row, row_hit, ticked, with_offers}
 use Rattle.nearest_query.proofs.Gathering.{filter-append}
 use Rattle.nearest_query.proofs.ReadLaws.{read_by_levels}
 use Rattle.nearest_query.proofs.VectorLaws.{vector_read}
@@ -128,7 +127,7 @@ offers-append : (columns : List Column) (terms : List Constraint) (best : Rankin
 offers-append columns terms best xs ys =
     let ranking : List Hit → Ranking = λ hs. record { room = best.room; hits = hs } in
     ap ranking (sym (offered-append is_before best.room best.hits (filter (is_within columns terms) xs) (filter (is_within columns terms) ys))
-      ∙ ap (offered is_before best.room best.hits) (sym (filter-append (is_within columns terms) xs ys)))
+    ∙ ap (offered is_before best.room best.hits) (sym (filter-append (is_within columns terms) xs ys)))
 
 ticked-add : (reads m n : ℕ) → ticked (ticked reads m) n ≡ ticked reads (n + m)
 ticked-add reads m zero = ap (ticked reads) (let e : m ≡ 0 + m = omega arith in e)

@@ -1,19 +1,18 @@
 -- What each term of a plan asks of a chunk, of a row, and of its metadata.
-use Rattle.std.proofs.Common.{◌≡◌, ℕ, zero, suc, ℤ, ◌+◌, ◌-◌, ◌≤◌, ◌<◌, Bool, true, false, not, cond, List, [], ◌∷◌, length, get_or, drop, map, refl, sym, ap, ap₂, ◌∙◌, arith, subst, Some, None, Option, drop-cons, add-one}
+use Rattle.std.proofs.Common.{◌≡◌, ℕ, zero, suc, ℤ, ◌+◌, ◌-◌, ◌≤◌, ◌<◌, Bool, true, false, not, cond, List, [], ◌∷◌, length, get_or, drop, map, refl, sym, ap, ◌∙◌, arith, subst, Some, Option, drop-cons, add-one}
 use Rattle.std.specs.Prelude.{◌&&◌, ◌||◌, slice_index_or}
 use Rattle.std.specs.List.{list_all, AllByRecursion, slice_get}
 use Rattle.std.specs.Option.{option_map}
 use Rattle.std.specs.Ordering.{int_eq}
-use Rattle.std.proofs.lemmas.Bool.{and_parts, cases_Bool, false≢true}
-use Rattle.std.proofs.lemmas.Cmp.{int_eq_equiv}
+use Rattle.std.proofs.lemmas.Bool.{and_parts}
 use Rattle.std.proofs.lemmas.List.{get_or-map, length-map, drop_all}
 use Rattle.std.proofs.lemmas.Int.{ints}
 use Rattle.vec_base.specs.declared.value.Value.{Value}
 use Rattle.vec_base.specs.declared.value.Value.TheVariants.{Null, Int}
-use Rattle.row_chunks.specs.Cells.{can_filter, has_members, takes_test}
-use Rattle.row_model.specs.ColumnNames.{is_count, is_distance, is_of, is_unknown, place_of}
+use Rattle.row_chunks.specs.Cells.{can_filter, takes_test}
+use Rattle.row_model.specs.ColumnNames.{is_count, is_distance, is_of, place_of}
 use Rattle.row_model.specs.Groups.{kind_in}
-use Rattle.row_model.specs.Check.{compares_vector, has_untaken_operator, is_match, is_nearest, matches_no_vector, some_term, test_values}
+use Rattle.row_model.specs.Check.{compares_vector, has_untaken_operator, is_match, matches_no_vector, test_values}
 use Rattle.row_model.specs.Schemas.{has_role, is_metadata, is_partition, is_vector}
 use Rattle.row_model.specs.Valid.{is_valid_row}
 use Rattle.row_model.specs.Values.{is_of_type, meets, passes, value_at}
@@ -29,7 +28,7 @@ use Rattle.row_model.specs.declared.statement.Test.{Test}
 use Rattle.row_model.specs.declared.statement.Test.TheVariants.{Compare, Member, Match}
 use Rattle.row_model.proofs.ShapeLaws.{nearest_with_target}
 use Rattle.knn_plan.specs.Levels.{meets_on, meets_rest}
-use Rattle.knn_plan.specs.PlannedColumns.{named_column, term_column}
+use Rattle.knn_plan.specs.PlannedColumns.{term_column}
 use Rattle.knn_plan.specs.Plans.{Planned, PlannedTarget}
 use Rattle.knn_plan.specs.TermUses.{is_on_chunks, is_on_rows, is_rowid}
 use Rattle.knn_plan.specs.declared.column.PlannedColumn.{PlannedColumn}
@@ -40,7 +39,7 @@ use Rattle.knn_plan.proofs.TermLaws.{IsTermFor, terms_fit}
 use Rattle.shadow_records.specs.PlacedTables.{PlacedRow, PlacedTable, partition_of, plain_rows, row_at, row_of, value_in}
 use Rattle.table_version.specs.Viewed.{column_value, is_vector_column, is_kind_of, kind_numbered}
 use Rattle.nearest_query.specs.Searches.{IsReady}
-use Rattle.nearest_query.proofs.PlaceLaws.{all_there, found_passes}
+use Rattle.nearest_query.proofs.PlaceLaws.{found_passes}
 use Rattle.nearest_query.proofs.VectorLaws.{row_wide, target_there}
 
 -- ---- the terms of a plan
@@ -100,9 +99,9 @@ value_met table term column values c s p is valid there kept =
     ap (λ (q : PlannedColumn). not (is_of is_partition q.place) || passes term.test (slice_index_or values q.number Null)) is
     ∙ same_answer (is_of is_partition place) (passes term.test (slice_index_or values (term_column columns term).number Null)) (meets columns p.row term)
     (λ part.
-      ap (λ (l : List Value). passes term.test (slice_index_or l (term_column columns term).number Null)) (kept ∙ partition_values columns p.row.values)
-      ∙ ap (passes term.test) (role_shows Partition (λ v. v) columns term.column p.row Null refl part wide)
-      ∙ ap (λ b. b || passes term.test (value_at place p.row)) (sym (no_count place part)))
+    ap (λ (l : List Value). passes term.test (slice_index_or l (term_column columns term).number Null)) (kept ∙ partition_values columns p.row.values)
+    ∙ ap (passes term.test) (role_shows Partition (λ v. v) columns term.column p.row Null refl part wide)
+    ∙ ap (λ b. b || passes term.test (value_at place p.row)) (sym (no_count place part)))
 
 -- ---- terms on metadata
 

@@ -1,20 +1,19 @@
 -- The vector of a row at its number among the row's vectors, and what a plan's target says of it.
-use Rattle.std.proofs.Common.{◌≡◌, ℕ, zero, suc, ℤ, ◌+◌, ◌-◌, ◌≤◌, ◌<◌, Bool, true, false, cond, List, [], ◌∷◌, length, get_or, take, refl, sym, ap, ap₂, ◌∙◌, arith, subst, Some, None, Option}
-use Rattle.std.specs.Prelude.{slice_index_or, is_some}
+use Rattle.std.proofs.Common.{◌≡◌, ℕ, zero, suc, ℤ, ◌+◌, ◌-◌, ◌≤◌, ◌<◌, Bool, true, false, cond, List, [], ◌∷◌, length, get_or, take, refl, sym, ap, ◌∙◌, arith, subst, Some, None, Option}
+use Rattle.std.specs.Prelude.{slice_index_or}
 use Rattle.std.specs.List.{cons_option, list_all}
 use Rattle.std.specs.Option.{option_map}
-use Rattle.std.proofs.lemmas.Bool.{and_parts, cases_Bool, false≢true}
+use Rattle.std.proofs.lemmas.Bool.{and_parts}
 use Rattle.std.proofs.lemmas.List.Sums.{sum_by-cons}
 use Rattle.vec_base.specs.declared.limits.TheConstants.{MOST_REPLY_ROWS}
 use Rattle.vec_base.specs.declared.value.Value.{Value}
 use Rattle.vec_base.specs.declared.value.Value.TheVariants.{Null, Int, Text, Blob, Int8, Bits}
 use Rattle.chunk_slots.specs.Slots.{vector_of, vectors_of}
-use Rattle.row_model.specs.Answer.{Target, or_later, target_in, target_of, count_wanted, vector_of as bytes_of}
+use Rattle.row_model.specs.Answer.{Target, or_later, target_in, target_of, vector_of as bytes_of}
 use Rattle.row_model.specs.ColumnNames.{is_of, place_of}
 use Rattle.row_model.specs.Schemas.{count_of, has_role, is_same_role, is_vector, role_of}
 use Rattle.row_model.specs.Valid.{are_valid_values, is_valid_row, is_valid_value}
 use Rattle.row_model.specs.Values.{value_at}
-use Rattle.row_model.specs.declared.row.Row.{Row}
 use Rattle.row_model.specs.declared.schema.Column.{Column}
 use Rattle.row_model.specs.declared.schema.Kind.{Kind}
 use Rattle.row_model.specs.declared.schema.Kind.TheVariants.{IntKey, TextKey, Int8Vector, BitVector, IntPartition, TextPartition, IntMeta, TextMeta, BoolMeta, IntAux, TextAux, BlobAux}
@@ -29,9 +28,9 @@ use Rattle.row_model.specs.inner.ComparableVectors.{IsComparable}
 use Rattle.row_model.proofs.SelectLaws.{comparable_rows, few_wanted}
 use Rattle.knn_plan.specs.PlannedColumns.{named_column, number_among}
 use Rattle.knn_plan.specs.Plans.{Planned, PlannedTarget, planned_target}
-use Rattle.knn_plan.proofs.NumberLaws.{values_of, column_there, IsColumnAt, role_shows}
+use Rattle.knn_plan.proofs.NumberLaws.{values_of, column_there, role_shows}
 use Rattle.shadow_records.specs.PlacedTables.{PlacedRow, PlacedTable, plain, plain_rows, row_at}
-use Rattle.table_version.specs.Kept.{vector_width, widths_of}
+use Rattle.table_version.specs.Kept.{widths_of}
 use Rattle.table_version.proofs.SettingLaws.{vector_in}
 use Rattle.table_version.proofs.WeavingLaws.{one_if, one_width}
 use Rattle.nearest_query.specs.Searches.{IsReady}

@@ -25,9 +25,9 @@ hits_of_piece piece = hits_over piece.table piece.plan.select.where_terms piece.
 -- the piece after its scan
 abbrev pub piece_scanned : PieceState → PieceState
 piece_scanned piece = record piece {
-    best = with_offers piece.table.schema.columns piece.plan.select.where_terms piece.best (hits_of_piece piece);
-    reads = ticked piece.reads (length (hits_of_piece piece));
-  }
+  best = with_offers piece.table.schema.columns piece.plan.select.where_terms piece.best (hits_of_piece piece);
+  reads = ticked piece.reads (length (hits_of_piece piece));
+}
 
 -- the chunks in runs, as many as there are pieces
 abbrev pub parts_of : ℕ → List ℕ → List (List ℕ)

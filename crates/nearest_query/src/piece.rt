@@ -112,7 +112,15 @@ pub(crate) fn add_pieces<'a>(
     let piece = make_piece(alloc, table, plan, target, k, part, steps)?;
     pieces.push(piece)?;
     add_pieces(
-        alloc, pieces, table, plan, target, k, count - 1, rest, steps,
+        alloc,
+        pieces,
+        table,
+        plan,
+        target,
+        k,
+        count - 1,
+        rest,
+        steps,
     )
 }
 

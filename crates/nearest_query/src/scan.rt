@@ -23,6 +23,7 @@ use vec_base::Steps;
 fn offer_read(
     table: &TableVersion,
     plan: &Plan,
+    by_distance: bool,
     target: &Target<'_>,
     chunk: u32,
     slots: &Chunk,
@@ -31,6 +32,7 @@ fn offer_read(
     best: &mut Best,
     steps: &mut Steps,
 )
+    requires by_distance { by_distance ≡ plan.now.by_distance }
     requires ready { IsReady table.now.table plan.now target.now }
     requires kept_slot { slot_at slots.now slot ≡ option_map slot_of_row (row_at table.now.table.rows chunk slot) }
     requires widths { slots.now.widths ≡ widths_of table.now.table.schema.columns }
@@ -40,7 +42,7 @@ fn offer_read(
     ensures pieces { steps.new.pieces ≡ steps.old.pieces }
 {
     let distance = distance_to(target, slots.vector(slot, target.column.number, steps));
-    if !bounds_met(plan, distance) {
+    if !bounds_met(plan, by_distance, distance) {
         return;
     }
     best.offer(Hit {
@@ -54,6 +56,8 @@ fn offer_read(
 fn offer_slot(
     table: &TableVersion,
     plan: &Plan,
+    by_row: bool,
+    by_distance: bool,
     target: &Target<'_>,
     chunk: u32,
     slots: &Chunk,
@@ -62,6 +66,8 @@ fn offer_slot(
     best: &mut Best,
     steps: &mut Steps,
 )
+    requires by_row { by_row ≡ plan.now.by_row }
+    requires by_distance { by_distance ≡ plan.now.by_distance }
     requires ready { IsReady table.now.table plan.now target.now }
     requires within { slot < length keep.now }
     requires used { slot < length slots.now.slots }
@@ -79,10 +85,21 @@ fn offer_slot(
     let Some(rowid) = slots.rowid(slot) else {
         return;
     };
-    if !rest_met(table, plan, &rowid) {
+    if !rest_met(table, plan, by_row, &rowid) {
         return;
     }
-    offer_read(table, plan, target, chunk, slots, slot, &rowid, best, steps);
+    offer_read(
+        table,
+        plan,
+        by_distance,
+        target,
+        chunk,
+        slots,
+        slot,
+        &rowid,
+        best,
+        steps,
+    );
 }
 
 /// Offers the rows of a chunk whose bits are set, slot by slot.
@@ -107,8 +124,22 @@ fn offer_kept(
     ensures reads { steps.new.reads ≡ ticked steps.old.reads (length (hits_in table.now.table plan.now.select.where_terms target.now chunk)) }
     ensures pieces { steps.new.pieces ≡ steps.old.pieces }
 {
+    let by_row = plan.is_by_row();
+    let by_distance = plan.is_by_distance();
     for slot in 0..slots.size() {
-        offer_slot(table, plan, target, chunk, slots, keep, slot, best, steps);
+        offer_slot(
+            table,
+            plan,
+            by_row,
+            by_distance,
+            target,
+            chunk,
+            slots,
+            keep,
+            slot,
+            best,
+            steps,
+        );
     }
 }
 

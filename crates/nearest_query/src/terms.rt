@@ -38,7 +38,13 @@ pub(crate) fn value_met(column: &PlannedColumn, test: &Test, values: &[Value]) -
 }
 
 /// Clears the bits of a chunk's rows that do not meet a term, where that is on metadata.
-fn filter_by(table: &TableVersion, chunk: u32, column: PlannedColumn, term: &Constraint, keep: &mut Bitmap)
+fn filter_by(
+    table: &TableVersion,
+    chunk: u32,
+    column: PlannedColumn,
+    term: &Constraint,
+    keep: &mut Bitmap,
+)
     requires there { is_some (first_in table.now.table.rows chunk) ≡ true }
     requires column { column ≡ term_column table.now.table.schema.columns term.now }
     requires fits { IsTermFor table.now.table.schema.columns true term.now }
@@ -76,7 +82,10 @@ fn is_on_rows(column: PlannedColumn, test: &Test) -> bool
     ensures { result ≡ is_on_rows column.place test.now }
 {
     let on_chunks = column.has_role(Role::Partition) || column.has_role(Role::Metadata);
-    !(matches!(test, Test::Match(_)) || column.place.is_count() || column.place.is_distance() || on_chunks)
+    !(matches!(test, Test::Match(_))
+        || column.place.is_count()
+        || column.place.is_distance()
+        || on_chunks)
 }
 
 /// Whether the value in a column of the row of a rowid passes a test.
@@ -132,13 +141,14 @@ fn row_terms_met(table: &TableVersion, plan: &Plan, rowid: &i64) -> bool
     true
 }
 
-/// Whether the row of a rowid meets the terms that are tested row by row.
+/// Whether the row of a rowid meets the terms that are tested row by row. The flag says whether there are any.
 #[inline]
-pub(crate) fn rest_met(table: &TableVersion, plan: &Plan, rowid: &i64) -> bool
+pub(crate) fn rest_met(table: &TableVersion, plan: &Plan, by_row: bool, rowid: &i64) -> bool
+    requires by_row { by_row ≡ plan.now.by_row }
     requires ready { (target : PlannedTarget) × IsReady table.now.table plan.now target }
     ensures { (placed : PlacedRow) → row_of table.now.table.rows rowid.now ≡ Some placed → result ≡ list_all (meets_rest table.now.table.schema.columns placed.row) plan.now.select.where_terms }
 {
-    if !plan.is_by_row() {
+    if !by_row {
         return true;
     }
     row_terms_met(table, plan, rowid)
@@ -168,13 +178,14 @@ fn distance_terms_met(plan: &Plan, distance: u32) -> bool
     true
 }
 
-/// Whether a distance meets the terms on it.
+/// Whether a distance meets the terms on it. The flag says whether there are any.
 #[inline]
-pub(crate) fn bounds_met(plan: &Plan, distance: u32) -> bool
+pub(crate) fn bounds_met(plan: &Plan, by_distance: bool, distance: u32) -> bool
+    requires by_distance { by_distance ≡ plan.now.by_distance }
     requires columns { length plan.now.terms ≡ length plan.now.select.where_terms }
     ensures { (columns : List Column) → IsPlanFor columns plan.now → result ≡ list_all (meets_bound columns distance) plan.now.select.where_terms }
 {
-    if !plan.is_by_distance() {
+    if !by_distance {
         return true;
     }
     distance_terms_met(plan, distance)

@@ -1,5 +1,5 @@
 -- A partition column, a column of vectors, and a metadata column.
-use Rattle.std.specs.Prelude.{◌≡◌, List, [], ◌∷◌, codes}
+use Rattle.std.specs.Prelude.{List, [], ◌∷◌, codes}
 use Rattle.row_model.specs.declared.schema.Column.{Column}
 use Rattle.row_model.specs.declared.schema.Kind.TheVariants.{Int8Vector, IntPartition, IntMeta}
 use Rattle.row_model.specs.declared.schema.Metric.TheVariants.{L2}

@@ -103,7 +103,11 @@ pub(crate) fn insert_apart(
 }
 
 /// The rows of these rowids go.
-pub(crate) fn remove_all(alloc: Global, version: &mut TableVersion, rowids: &[i64]) -> Result<(), Fail>
+pub(crate) fn remove_all(
+    alloc: Global,
+    version: &mut TableVersion,
+    rowids: &[i64],
+) -> Result<(), Fail>
     requires { version.old.table.schema.columns ≡ three_columns }
     ensures { version.new.table.schema.columns ≡ three_columns }
 {

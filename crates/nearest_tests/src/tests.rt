@@ -42,7 +42,11 @@ fn terms(alloc: Global, k: i64, tests: &[(&str, Op, i64)]) -> Result<List<Constr
 }
 
 /// The plan of the SELECT of all columns with these terms.
-fn plan_of(alloc: Global, version: &TableVersion, where_terms: List<Constraint>) -> Result<Plan, Fail>
+fn plan_of(
+    alloc: Global,
+    version: &TableVersion,
+    where_terms: List<Constraint>,
+) -> Result<Plan, Fail>
     requires columns { version.now.table.schema.columns ≡ three_columns }
     requires terms { length where_terms ≤ MOST_TERMS }
     ensures { IfOk result (λ plan. IsPlanFor version.now.table.schema.columns plan) }
@@ -76,7 +80,15 @@ fn found<R: Threads + Sync>(
     if plan.target().is_none() {
         return Err(Fail::from("no target"));
     }
-    let hits = nearest(rt, alloc, version, &plan, workers.max(1), &NoGate, &mut steps)?;
+    let hits = nearest(
+        rt,
+        alloc,
+        version,
+        &plan,
+        workers.max(1),
+        &NoGate,
+        &mut steps,
+    )?;
     Ok((hits, steps))
 }
 
@@ -111,7 +123,9 @@ fn ties_are_by_rowid(rt: HostRuntime) -> Result<(), Fail> {
 fn ties_of_several_chunks_are_by_rowid(rt: HostRuntime) -> Result<(), Fail> {
     let alloc = rt.alloc();
     let mut version = table(alloc)?;
-    let falling = [20, 19, 18, 17, 16, 15, 14, 13, 12, 11, 10, 9, 8, 7, 6, 5, 4, 3, 2, 1];
+    let falling = [
+        20, 19, 18, 17, 16, 15, 14, 13, 12, 11, 10, 9, 8, 7, 6, 5, 4, 3, 2, 1,
+    ];
     insert_alike(alloc, &mut version, &falling)?;
     for workers in [1, 2, 3, 64] {
         let (hits, steps) = found(&rt, alloc, &version, 3, &[], workers)?;

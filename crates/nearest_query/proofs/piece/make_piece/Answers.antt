@@ -1,4 +1,4 @@
-use Rattle.std.proofs.Common.{◌≡◌, ap, sym, subst, ◌≤◌}
+use Rattle.std.proofs.Common.{sym, subst, ◌≤◌}
 use Rattle.vec_base.specs.declared.limits.TheConstants.{MOST_CHUNK_SIZE}
 use Rattle.row_model.specs.declared.schema.Schema.{Schema}
 use Rattle.table_version.proofs.SchemaShape.{chunk-size}

@@ -1,14 +1,9 @@
-use Rattle.std.proofs.Common.{◌≡◌, ◌∙◌, ℕ, ℤ, List, [], ◌∷◌, ap, sym, subst, true, false, length, ◌<◌, ◌≤◌, get_or, take, arith, rules, w64, to_z, of_z, Some, is_some}
-use Rattle.std.specs.Prelude.{slice_index_or, map}
-use Rattle.std.specs.Option.{option_map}
+use Rattle.std.proofs.Common.{◌∙◌, ap, sym, length, arith, rules, w64, to_z, of_z}
 use Rattle.std.proofs.lemmas.Int.{to_z-of_z}
 use mir.Val.{SFits}
-use Rattle.chunk_slots.specs.Slots.{slot_at, vector_at}
+use Rattle.chunk_slots.specs.Slots.{vector_at}
 use Rattle.knn_plan.specs.Plans.{PlannedTarget}
-use Rattle.shadow_records.specs.PlacedTables.{PlacedRow, row_at, row_of}
-use Rattle.topk_merge.specs.declared.hit.Hit.{Hit}
-use Rattle.nearest_query.specs.Gathered.{found, found_in}
-use Rattle.nearest_query.specs.Searches.{hits_in, is_read_row, row_hit, ticked, with_offers}
+use Rattle.shadow_records.specs.PlacedTables.{PlacedRow}
 use Rattle.nearest_query.proofs.PlaceLaws.{some_row}
 use Rattle.nearest_query.proofs.ScanLaws.{read-left, read-offered, vector-at}
 use Rattle.nearest_query.proofs.TermFacts.{columns_long}
@@ -44,8 +39,8 @@ pub distance_to-distance-requires-clause-short : goal.distance_to-distance-requi
 distance_to-distance-requires-clause-short c =
     (comparable_at c.args.table.now.table c.args.plan.now c.args.target.now c.requires.ready c.args.chunk c.args.slot c.requires.row.0 c.requires.row.1.0).short
 
-pub bounds_met-requires : goal.bounds_met-requires
-bounds_met-requires c = record { columns = columns_long c.args.table.now.table.schema.columns c.args.plan.now.select.where_terms c.args.plan.now.terms c.requires.ready.plan_for.terms }
+pub bounds_met-requires-clause-columns : goal.bounds_met-requires-clause-columns
+bounds_met-requires-clause-columns c = columns_long c.args.table.now.table.schema.columns c.args.plan.now.select.where_terms c.args.plan.now.terms c.requires.ready.plan_for.terms
 
 pub returns-then-not-bounds_met-clause-best : goal.returns-then-not-bounds_met-clause-best
 returns-then-not-bounds_met-clause-best c p there =

@@ -1,14 +1,5 @@
-use Rattle.std.proofs.Common.{◌≡◌, ◌∙◌, ℕ, ℤ, List, [], ◌∷◌, ap, sym, subst, true, false, length, ◌<◌, ◌≤◌, get_or, take, arith, rules, w64, to_z, of_z, Some, is_some}
-use Rattle.std.specs.Prelude.{slice_index_or, map}
-use Rattle.std.specs.Option.{option_map}
-use Rattle.std.proofs.lemmas.Int.{to_z-of_z}
-use mir.Val.{SFits}
-use Rattle.chunk_slots.specs.Slots.{slot_at, vector_at}
-use Rattle.knn_plan.specs.Plans.{PlannedTarget}
-use Rattle.shadow_records.specs.PlacedTables.{PlacedRow, row_at, row_of}
-use Rattle.topk_merge.specs.declared.hit.Hit.{Hit}
-use Rattle.nearest_query.specs.Gathered.{found, found_in}
-use Rattle.nearest_query.specs.Searches.{hits_in, is_read_row, row_hit, ticked, with_offers}
+use Rattle.std.proofs.Common.{◌∙◌, get_or}
+use Rattle.nearest_query.specs.Searches.{hits_in}
 use Rattle.nearest_query.proofs.ScanLaws.{over-more, ticks-over}
 use Rattle.std.proofs.lemmas.List.{get_or_default}
 use Rattle.nearest_query.proofs.scan.scan_chunks.Goals as goal

@@ -1,4 +1,4 @@
-use Rattle.std.proofs.Common.{◌≡◌, ◌≤◌, ◌<◌, ◌∙◌, ap, sym, arith, rules, length, w16, Fits, List}
+use Rattle.std.proofs.Common.{◌∙◌, sym, arith}
 use Rattle.std.proofs.lemmas.Result.{IfOk-weaker}
 use Rattle.nearest_query.specs.Searches.{IsReady}
 use Rattle.nearest_query.proofs.FindingLaws.{nearest_found, reads_found}

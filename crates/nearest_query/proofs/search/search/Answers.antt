@@ -1,4 +1,4 @@
-use Rattle.std.proofs.Common.{◌≡◌, ◌∙◌, ap, sym, subst, ℕ, List}
+use Rattle.std.proofs.Common.{◌∙◌, sym, subst, ℕ, List}
 use Rattle.std.specs.List.{AllByRecursion}
 use Rattle.nearest_query.specs.Searches.{IsMetChunk, above_chunks}
 use Rattle.nearest_query.proofs.ChunkLaws.{all-met}

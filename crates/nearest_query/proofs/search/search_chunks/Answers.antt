@@ -1,4 +1,4 @@
-use Rattle.std.proofs.Common.{◌≡◌, ◌<◌, ◌∙◌, ap, sym, arith, refl}
+use Rattle.std.proofs.Common.{◌∙◌, arith, refl}
 use Rattle.std.specs.Prelude.{map}
 use Rattle.nearest_query.specs.Pieces.{piece_scanned}
 use Rattle.nearest_query.proofs.JoiningLaws.{few_pieces, gathered_from, hits_gathered, most_gathered, pieces_gathered, reads_gathered}

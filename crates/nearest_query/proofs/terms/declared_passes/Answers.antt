@@ -1,15 +1,9 @@
-use Rattle.std.proofs.Common.{◌≡◌, ◌∙◌, ap, sym, subst, true, false, length, ◌<◌, arith, rules, w64, to_z, of_z}
+use Rattle.std.proofs.Common.{◌∙◌, ap, sym, rules, w64}
 use mir.Val.{SFits}
 use Rattle.std.proofs.lemmas.Int.{to_z-of_z}
-use Rattle.std.specs.Prelude.{slice_index_or}
-use Rattle.row_model.specs.ColumnNames.{is_of}
-use Rattle.row_model.specs.Schemas.{is_metadata, is_vector}
 use Rattle.row_model.specs.Values.{passes, value_at}
-use Rattle.row_model.specs.declared.schema.Place.{Place}
-use Rattle.row_model.specs.declared.schema.Place.TheVariants.{Rowid, Declared}
+use Rattle.row_model.specs.declared.schema.Place.TheVariants.{Declared}
 use Rattle.vec_base.specs.declared.value.Value.TheVariants.{Int}
-use Rattle.knn_plan.specs.Levels.{meets_on, meets_rest, meets_bound}
-use Rattle.knn_plan.specs.TermUses.{is_on_rows}
 use Rattle.nearest_query.proofs.TermFacts.{own_rowid, stored_at}
 use Rattle.nearest_query.proofs.terms.declared_passes.Goals as goal
 

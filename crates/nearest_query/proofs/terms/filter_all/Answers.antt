@@ -1,15 +1,8 @@
-use Rattle.std.proofs.Common.{◌≡◌, ◌∙◌, ℕ, List, ap, sym, subst, true, false, length, ◌<◌, ◌≤◌, get_or, arith}
-use Rattle.std.specs.Prelude.{slice_index_or}
-use Rattle.row_model.specs.ColumnNames.{is_of}
-use Rattle.row_model.specs.Schemas.{is_metadata, is_vector}
-use Rattle.row_model.specs.Values.{passes, value_at}
-use Rattle.row_model.specs.declared.schema.Place.{Place}
-use Rattle.row_model.specs.declared.schema.Place.TheVariants.{Rowid, Declared}
-use Rattle.vec_base.specs.declared.value.Value.TheVariants.{Int}
+use Rattle.std.proofs.Common.{◌≡◌, ◌∙◌, List, ap, subst, length, ◌<◌, ◌≤◌, get_or}
+use Rattle.row_model.specs.Schemas.{is_metadata}
 use Rattle.row_model.specs.declared.statement.Constraint.{Constraint}
 use Rattle.row_model.specs.declared.statement.Select.{Select}
-use Rattle.knn_plan.specs.Levels.{meets_on, meets_rest, meets_bound}
-use Rattle.knn_plan.specs.TermUses.{is_on_rows}
+use Rattle.knn_plan.specs.Levels.{meets_on}
 use Rattle.nearest_query.proofs.TermFacts.{term_at, filters_more, filters_end}
 use Rattle.nearest_query.proofs.terms.filter_all.Goals as goal
 
@@ -26,10 +19,10 @@ loop-at-preserved c =
     let less = subst (λ (ts : List Constraint). c.loop-at.at < length ts) terms c.loop-at-test.true in
     let is = subst (λ (ts : List Constraint). c.term-item.result ≡ get_or ts c.loop-at.at c.term-item.result) terms c.term-item.is in
     record {
-  size = c.filter_by.ensures.size;
-  cleared = λ s off. c.filter_by.ensures.cleared s (c.loop-at.invariant.cleared s off);
-  passed = λ s p there. filters_more (meets_on is_metadata c.args.table.now.table.schema.columns p.row) c.args.plan.now.select.where_terms c.loop-at.at c.term-item.result _ _ _ less is (c.filter_by.ensures.passed s p there) (c.loop-at.invariant.passed s p there);
-}
+      size = c.filter_by.ensures.size;
+      cleared = λ s off. c.filter_by.ensures.cleared s (c.loop-at.invariant.cleared s off);
+      passed = λ s p there. filters_more (meets_on is_metadata c.args.table.now.table.schema.columns p.row) c.args.plan.now.select.where_terms c.loop-at.at c.term-item.result _ _ _ less is (c.filter_by.ensures.passed s p there) (c.loop-at.invariant.passed s p there);
+    }
 
 pub returns-clause-passed : goal.returns-clause-passed
 returns-clause-passed c s p there =

@@ -1,13 +1,6 @@
-use Rattle.std.proofs.Common.{◌≡◌, ◌∙◌, ap, sym, subst, true, false, length, ◌<◌, arith}
-use Rattle.std.specs.Prelude.{slice_index_or}
+use Rattle.std.proofs.Common.{◌∙◌, ap, sym}
 use Rattle.row_model.specs.ColumnNames.{is_of}
-use Rattle.row_model.specs.Schemas.{is_metadata, is_vector}
-use Rattle.row_model.specs.Values.{passes, value_at}
-use Rattle.row_model.specs.declared.schema.Place.{Place}
-use Rattle.row_model.specs.declared.schema.Place.TheVariants.{Rowid, Declared}
-use Rattle.vec_base.specs.declared.value.Value.TheVariants.{Int}
-use Rattle.knn_plan.specs.Levels.{meets_on, meets_rest, meets_bound}
-use Rattle.knn_plan.specs.TermUses.{is_on_rows}
+use Rattle.row_model.specs.Schemas.{is_metadata}
 use Rattle.nearest_query.proofs.TermFacts.{column_place, test_taken}
 use Rattle.nearest_query.proofs.terms.filter_by.Goals as goal
 

@@ -1,15 +1,7 @@
-use Rattle.std.proofs.Common.{◌≡◌, ◌∙◌, ℕ, List, ap, sym, subst, true, false, length, ◌<◌, ◌≤◌, get_or, arith}
-use Rattle.std.specs.Prelude.{slice_index_or}
-use Rattle.row_model.specs.ColumnNames.{is_of}
-use Rattle.row_model.specs.Schemas.{is_metadata, is_vector}
-use Rattle.row_model.specs.Values.{passes, value_at}
-use Rattle.row_model.specs.declared.schema.Place.{Place}
-use Rattle.row_model.specs.declared.schema.Place.TheVariants.{Rowid, Declared}
-use Rattle.vec_base.specs.declared.value.Value.TheVariants.{Int}
+use Rattle.std.proofs.Common.{◌≡◌, ◌∙◌, List, ap, sym, subst, length, ◌<◌, ◌≤◌, get_or}
 use Rattle.row_model.specs.declared.statement.Constraint.{Constraint}
 use Rattle.row_model.specs.declared.statement.Select.{Select}
-use Rattle.knn_plan.specs.Levels.{meets_on, meets_rest, meets_bound}
-use Rattle.knn_plan.specs.TermUses.{is_on_rows}
+use Rattle.knn_plan.specs.Levels.{meets_rest}
 use Rattle.nearest_query.proofs.TermFacts.{term_at, met_more, met_not, met_end}
 use Rattle.nearest_query.proofs.terms.row_terms_met.Goals as goal
 

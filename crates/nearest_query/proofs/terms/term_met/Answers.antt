@@ -1,16 +1,13 @@
 use Rattle.std.proofs.Common.{◌≡◌, ◌∙◌, ap, sym, subst, true, false, length, ◌<◌, arith, rules, w64, to_z, of_z}
 use mir.Val.{SFits}
 use Rattle.std.proofs.lemmas.Int.{to_z-of_z}
-use Rattle.std.specs.Prelude.{slice_index_or}
 use Rattle.row_model.specs.ColumnNames.{is_of}
-use Rattle.row_model.specs.Schemas.{is_metadata, is_vector}
-use Rattle.row_model.specs.Values.{passes, value_at}
-use Rattle.row_model.specs.declared.schema.Place.{Place}
-use Rattle.row_model.specs.declared.schema.Place.TheVariants.{Rowid, Declared}
+use Rattle.row_model.specs.Schemas.{is_vector}
+use Rattle.row_model.specs.Values.{passes}
+use Rattle.row_model.specs.declared.schema.Place.TheVariants.{Rowid}
 use Rattle.vec_base.specs.declared.value.Value.TheVariants.{Int}
-use Rattle.knn_plan.specs.Levels.{meets_on, meets_rest, meets_bound}
 use Rattle.knn_plan.specs.TermUses.{is_on_rows}
-use Rattle.nearest_query.proofs.TermFacts.{column_place, named_number, own_rowid, place_met, plain_column, row_by_row, rowid_met}
+use Rattle.nearest_query.proofs.TermFacts.{column_place, named_number, own_rowid, plain_column, row_by_row, rowid_met}
 use Rattle.nearest_query.proofs.terms.term_met.Goals as goal
 
 pub declared_passes-requires-clause-numbered : goal.declared_passes-requires-clause-numbered

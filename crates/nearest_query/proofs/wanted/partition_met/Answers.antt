@@ -1,13 +1,9 @@
-use Rattle.std.proofs.Common.{◌≡◌, ◌∙◌, ℕ, suc, List, [], ◌∷◌, ◌++◌, ap, ap₂, sym, subst, true, false, length, ◌<◌, ◌≤◌, ◌+◌, ◌-◌, get_or, take, drop, arith, Some, None, is_some}
-use Rattle.std.specs.Prelude.{slice_index_or, map, ◌||◌, not}
-use Rattle.std.specs.Option.{option_copied, option_map}
+use Rattle.std.proofs.Common.{◌≡◌, ◌∙◌, List, ap, sym, subst, length, ◌<◌, ◌≤◌, get_or}
+use Rattle.std.specs.Option.{option_copied}
 use Rattle.row_model.specs.Schemas.{is_partition}
 use Rattle.row_model.specs.declared.statement.Constraint.{Constraint}
 use Rattle.row_model.specs.declared.statement.Select.{Select}
 use Rattle.knn_plan.specs.Levels.{meets_on}
-use Rattle.knn_plan.specs.declared.column.PlannedColumn.{PlannedColumn}
-use Rattle.shadow_records.specs.PlacedTables.{PlacedRow, row_at}
-use Rattle.table_version.specs.Inserting.{partition_in}
 use Rattle.nearest_query.proofs.ChunkLaws.{partition-there, wanted-first}
 use Rattle.nearest_query.proofs.PlaceLaws.{first-row}
 use Rattle.nearest_query.proofs.TermFacts.{met_end, met_more, met_not, value_at_term}

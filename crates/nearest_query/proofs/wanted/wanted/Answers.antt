@@ -1,6 +1,4 @@
-use Rattle.std.proofs.Common.{◌≡◌, ◌<◌, ◌+◌, ◌∙◌, ℕ, ap, sym, subst, Some, None, Option, false, true, arith, is_some}
-use Rattle.std.specs.Prelude.{MatchOption}
-use Rattle.shadow_records.specs.PlacedTables.{first_in}
+use Rattle.std.proofs.Common.{◌∙◌, sym, arith}
 use Rattle.nearest_query.specs.Searches.{above_chunks}
 use Rattle.nearest_query.proofs.ChunkLaws.{above-is, below-there, no-more, one-more, wanted-start, wanted-end}
 use Rattle.nearest_query.proofs.wanted.wanted.Goals as goal
