@@ -2,6 +2,10 @@
 #![tactic(auto)]
 
 #[cfg(test)]
+mod items;
+#[cfg(test)]
 mod lookups;
+#[cfg(test)]
+mod scans;
 #[cfg(test)]
 mod tables;
