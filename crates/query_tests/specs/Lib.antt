@@ -1,0 +1,2 @@
+-- Columns: the columns of the tables that are searched.
+pub mod Columns

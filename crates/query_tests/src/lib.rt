@@ -1,0 +1,9 @@
+//! Searches over tables with columns of each kind.
+#![tactic(auto)]
+
+#[cfg(test)]
+mod bits;
+#[cfg(test)]
+mod documents;
+#[cfg(test)]
+mod search;
