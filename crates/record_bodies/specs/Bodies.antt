@@ -1,7 +1,7 @@
 -- What the body of a record says. Numbers stand with their lowest byte first.
 use Rattle.std.specs.Prelude.{ℕ, ◌+◌, ◌*◌, ◌/◌, ◌%◌, ◌^◌, ℤ, pos, Bool, true, false, cond, ◌&&◌, ◌==◌, nat_le, nat_lt, List, [], ◌∷◌, length, take, drop, slice_index, Option, Some, None}
 use Rattle.std.specs.List.{slice_get}
-use Rattle.std.specs.Option.{option_map}
+use Rattle.std.specs.Option.{option_and_then, option_map}
 use Rattle.std.specs.Int.{from_le_bytes, cast_signed, w16, w32, w64}
 use Rattle.std.specs.Str.{is_utf8}
 use Rattle.vec_base.specs.declared.value.Value.{Value}
@@ -11,11 +11,6 @@ use Rattle.row_model.specs.declared.schema.Kind.{Kind}
 use Rattle.row_model.specs.declared.schema.Kind.TheVariants.{TextPartition}
 use Rattle.row_model.specs.Schemas.{is_partition}
 use Rattle.shadow_records.specs.declared.kinds.TheConstants.{TEXT_VIEW_BYTES}
-
--- what a body says, where it is there
-abbrev pub of_body : {X : Type 0} → (List ℕ → Option X) → Option (List ℕ) → Option X
-of_body says None = None
-of_body says (Some body) = says body
 
 -- ---- places of rows
 
@@ -92,7 +87,7 @@ bool_in slot body = option_map bool_of (bit_in slot body)
 -- the text of a view; a longer one has a record of its own
 abbrev pub viewed_text : Option (List ℕ) → List ℕ → Option Value
 viewed_text long view =
-    cond (nat_lt TEXT_VIEW_BYTES (length_in view)) (of_body text_in long) (text_in (take (length_in view) (drop 4 view)))
+    cond (nat_lt TEXT_VIEW_BYTES (length_in view)) (option_and_then text_in long) (text_in (take (length_in view) (drop 4 view)))
 
 -- an auxiliary value; NULL has no record
 abbrev pub side_value : (List ℕ → Option Value) → Option (List ℕ) → Option Value

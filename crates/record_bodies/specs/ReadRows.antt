@@ -1,7 +1,7 @@
 -- What the records of a table say of a row.
 use Rattle.std.specs.Prelude.{ℕ, ℤ, pos, Bool, cond, ◌&&◌, List, [], ◌∷◌, ◌++◌, Option, Some, None, is_some}
 use Rattle.std.specs.List.{slice_get}
-use Rattle.std.specs.Option.{option_map}
+use Rattle.std.specs.Option.{option_and_then, option_map}
 use Rattle.vec_base.specs.declared.shadow.ShadowKey.{ShadowKey}
 use Rattle.vec_base.specs.declared.value.Value.{Value}
 use Rattle.vec_base.specs.declared.value.Value.TheVariants.{Int, Int8, Bits}
@@ -13,7 +13,7 @@ use Rattle.shadow_records.specs.Cells.{cell_width}
 use Rattle.shadow_records.specs.Keys.{key_of}
 use Rattle.shadow_records.specs.PlacedTables.{PlacedRow}
 use Rattle.shadow_records.specs.declared.kinds.TheConstants.{CHUNK_RECORDS, ROW_RECORDS, VECTOR_RECORDS, METADATA_RECORDS, LONG_TEXT_RECORDS, AUXILIARY_RECORDS}
-use Rattle.record_bodies.specs.Bodies.{of_body, place_in, id_in, int_in, text_in, blob_in, partition_in, joined, cell_in, bool_in, viewed_text, side_value}
+use Rattle.record_bodies.specs.Bodies.{place_in, id_in, int_in, text_in, blob_in, partition_in, joined, cell_in, bool_in, viewed_text, side_value}
 
 -- where the values of a row stand: among the records of a table number, under a rowid, in a slot of a chunk with these partition values; and the
 -- bytes behind the row's place
@@ -35,7 +35,7 @@ row_record row kind before = row.read (key_of row.number kind row.rowid (pos bef
 
 -- the row's cell in a column
 abbrev pub row_cell : RowSource → ℕ → ℕ → Kind → Option (List ℕ)
-row_cell row kind before column = of_body (cell_in (cell_width column) row.slot) (chunk_record row kind before)
+row_cell row kind before column = option_and_then (cell_in (cell_width column) row.slot) (chunk_record row kind before)
 
 -- the row's value in a column with so many of its role before it
 abbrev pub value_of : RowSource → ℕ → Kind → Option Value
@@ -45,9 +45,9 @@ value_of row before (Int8Vector width metric) = option_map Int8 (row_cell row VE
 value_of row before (BitVector width) = option_map Bits (row_cell row VECTOR_RECORDS before (BitVector width))
 value_of row before IntPartition = slice_get row.partition before
 value_of row before TextPartition = slice_get row.partition before
-value_of row before IntMeta = of_body int_in (row_cell row METADATA_RECORDS before IntMeta)
-value_of row before TextMeta = of_body (viewed_text (row_record row LONG_TEXT_RECORDS before)) (row_cell row METADATA_RECORDS before TextMeta)
-value_of row before BoolMeta = of_body (bool_in row.slot) (chunk_record row METADATA_RECORDS before)
+value_of row before IntMeta = option_and_then int_in (row_cell row METADATA_RECORDS before IntMeta)
+value_of row before TextMeta = option_and_then (viewed_text (row_record row LONG_TEXT_RECORDS before)) (row_cell row METADATA_RECORDS before TextMeta)
+value_of row before BoolMeta = option_and_then (bool_in row.slot) (chunk_record row METADATA_RECORDS before)
 value_of row before IntAux = side_value int_in (row_record row AUXILIARY_RECORDS before)
 value_of row before TextAux = side_value text_in (row_record row AUXILIARY_RECORDS before)
 value_of row before BlobAux = side_value blob_in (row_record row AUXILIARY_RECORDS before)
@@ -82,7 +82,7 @@ abbrev pub at_place : (ShadowKey → Option (List ℕ)) → ℕ → List Column 
 at_place read number columns rowid id None = None
 at_place read number columns rowid id (Some place) =
     cond (has_slot_records read number place.0)
-    (with_partition read number columns rowid id place (of_body (partition_in columns) (read (key_of number CHUNK_RECORDS (pos place.0) (pos 0)))))
+    (with_partition read number columns rowid id place (option_and_then (partition_in columns) (read (key_of number CHUNK_RECORDS (pos place.0) (pos 0)))))
     None
 
 -- the row of a rowid that a body with its place shows, beside the other records of the table number
