@@ -1,3 +1,4 @@
--- Bodies: what the body of a record says. ReadRows: what the records of a table say of a row.
+-- Bodies: what the body of a record says. OneText: that a text is written for at most one schema. ReadRows: what the records of a table say of a row.
 pub mod Bodies
+pub mod OneText
 pub mod ReadRows
