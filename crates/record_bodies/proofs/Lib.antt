@@ -6,3 +6,4 @@ pub mod PartitionLaws
 pub mod SchemaLaws
 pub mod DecodingLaws
 pub mod OneTableLaws
+pub mod PairLaws
