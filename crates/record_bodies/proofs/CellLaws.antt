@@ -33,7 +33,7 @@ laid_there cell width (suc count) slot wide lt =
     (λ (same : slot ≡ count).
     ap (take width) (drop_seam (laid cell count) (cell count) (slot * width) (length-laid cell width count wide ∙ ap (λ k. k * width) (sym same)))
     ∙ ap (λ k. take k (cell count)) (sym (wide count)) ∙ take_all (length (cell count)) (cell count) (omega arith) ∙ ap cell (sym same))
-    (λ other.
+    (λ (other : slot ≡ count → ⊥).
     let below : slot < count = omega arith in
     let fits : slot * width + width ≤ length (laid cell count) = rw (length-laid cell width count wide) (room slot count width below) in
     let inner : width ≤ length (drop (slot * width) (laid cell count)) = rw length-drop (omega arith) in
@@ -100,7 +100,7 @@ byte_there byte (suc count) i lt =
     let long = length-laid (λ k. byte k ∷ []) 1 count (λ k. refl) in
     ⊎_elim
     (λ (same : i ≡ count). get_last (laid (λ k. byte k ∷ []) count) (byte count) i (omega (arith, same, long)) ∙ ap (λ k. Some (byte k)) (sym same))
-    (λ other. get_left (laid (λ k. byte k ∷ []) count) (byte count ∷ []) i (omega arith) ∙ byte_there byte count i (omega arith))
+    (λ (other : i ≡ count → ⊥). get_left (laid (λ k. byte k ∷ []) count) (byte count ∷ []) i (omega arith) ∙ byte_there byte count i (omega arith))
     (cases_eq i count)
 
 is_one_bit : (b : Bool) → (cond b 1 0 == 1) ≡ b

@@ -7,3 +7,5 @@ pub mod SchemaLaws
 pub mod DecodingLaws
 pub mod OneTableLaws
 pub mod PairLaws
+pub mod SearchLaws
+pub mod TurnLaws

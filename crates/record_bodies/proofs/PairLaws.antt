@@ -1,8 +1,7 @@
 -- Pairs of rows by rising rowids, and a row more behind the others.
-use Rattle.std.proofs.Common.{◌≡◌, ℕ, ℤ, int_lt, List, [], ◌∷◌, ◌++◌, map, cond, Bool, true, false, not, ◌&&◌, ◌||◌, ◌==◌, is_some, refl, sym, ap, ap₂, ◌∙◌, subst, arith}
-use Rattle.std.specs.declared.option.Option.{Option}
+use Rattle.std.proofs.Common.{◌≡◌, ℕ, ℤ, int_lt, List, [], ◌∷◌, ◌++◌, cond, Bool, true, false, ◌==◌, is_some, refl, sym, ap, ◌∙◌, subst, arith}
 use Rattle.std.specs.declared.option.Option.TheVariants.{Some, None}
-use Rattle.std.specs.List.{list_all, list_any, AllPairs}
+use Rattle.std.specs.List.{list_all, AllPairs}
 use Rattle.std.specs.Ordering.{int_eq}
 use Rattle.std.proofs.lemmas.Bool.{and_parts, and_from, eqb-true}
 use Rattle.std.proofs.lemmas.Bool.Decides.{Decides-int_eq}
@@ -10,7 +9,7 @@ use Rattle.std.proofs.lemmas.Int.{ints}
 use Rattle.row_model.specs.declared.row.Row.{Row}
 use Rattle.row_model.specs.Rows.{is_rising}
 use Rattle.shadow_records.specs.PlacedTables.{PlacedRow, plain_rows, row_of, first_in}
-use Rattle.record_bodies.proofs.FindLaws.{some_is, found_all, found_stands, pairs_first, pairs_rest, rowid_is}
+use Rattle.record_bodies.proofs.FindLaws.{some_is, found_stands, pairs_first, pairs_rest, rowid_is}
 
 pub all_push : {X : Type 0} (test : X → Bool) (xs : List X) (x : X) → list_all test xs ≡ true → test x ≡ true → list_all test (xs ++ x ∷ []) ≡ true
 all_push test [] x a b = and_from _ _ b refl
@@ -70,13 +69,13 @@ pair_of R [] i j p q all rising e f lt = absurd cc
 pair_of R (x ∷ rows) i j p q all rising e f lt =
     at (int_eq x.row.rowid i) (int_eq x.row.rowid j) refl refl e f (λ g h. pair_of R rows i j p q (pairs_rest R x rows all) (rising_rest x rows rising) g h lt)
   where
-  at : (s t : Bool) → int_eq x.row.rowid i ≡ s → int_eq x.row.rowid j ≡ t → cond s (Some x) (row_of rows i) ≡ Some p → cond t (Some x) (row_of rows j) ≡ Some q → (row_of rows i ≡ Some p → row_of rows j ≡ Some q → R p q) → R p q
-  at true true g l e f rest = absurd (not_less i j (sym ((Decides-int_eq x.row.rowid i).0 g) ∙ (Decides-int_eq x.row.rowid j).0 l) lt)
-  at true false g l e f rest = subst (λ (y : PlacedRow). R y q) (some_is e) (pairs_first R x rows q all (found_stands _ rows q f))
-  at false true g l e f rest =
-      let low : int_lt x.row.rowid i ≡ true = ap (int_lt x.row.rowid) (sym (rowid_is rows i p e)) ∙ below_found x rows i p rising e in
-      absurd (not_both i j lt (ap (λ z. int_lt z i) (sym ((Decides-int_eq x.row.rowid j).0 l)) ∙ low))
-  at false false g l e f rest = rest e f
+    at : (s t : Bool) → int_eq x.row.rowid i ≡ s → int_eq x.row.rowid j ≡ t → cond s (Some x) (row_of rows i) ≡ Some p → cond t (Some x) (row_of rows j) ≡ Some q → (row_of rows i ≡ Some p → row_of rows j ≡ Some q → R p q) → R p q
+    at true true g l e f rest = absurd (not_less i j (sym ((Decides-int_eq x.row.rowid i).0 g) ∙ (Decides-int_eq x.row.rowid j).0 l) lt)
+    at true false g l e f rest = subst (λ (y : PlacedRow). R y q) (some_is e) (pairs_first R x rows q all (found_stands _ rows q f))
+    at false true g l e f rest =
+        let low : int_lt x.row.rowid i ≡ true = ap (int_lt x.row.rowid) (sym (rowid_is rows i p e)) ∙ below_found x rows i p rising e in
+        absurd (not_both i j lt (ap (λ z. int_lt z i) (sym ((Decides-int_eq x.row.rowid j).0 l)) ∙ low))
+    at false false g l e f rest = rest e f
 
 -- rows are found as before, and the new one
 pub row_of-push : (rows : List PlacedRow) (p : PlacedRow) (rowid : ℤ) → row_of (rows ++ p ∷ []) rowid ≡ cond (is_some (row_of rows rowid)) (row_of rows rowid) (cond (int_eq p.row.rowid rowid) (Some p) None)

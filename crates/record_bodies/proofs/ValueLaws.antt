@@ -3,9 +3,10 @@ use Rattle.std.proofs.Common.{◌≡◌, ℕ, zero, suc, ◌-◌, ◌*◌, ◌/�
 use Rattle.std.specs.declared.option.Option.TheVariants.{Some, None}
 use Rattle.std.specs.Int.{cast_signed, cast_unsigned, w64}
 use Rattle.std.specs.Option.{option_and_then}
-use Rattle.std.specs.Str.{is_utf8}
+use Rattle.std.specs.Str.{IsUtf8, is_utf8}
+use Rattle.std.proofs.lemmas.Str.{is_utf8-from_IsUtf8, IsUtf8-from_is_utf8}
 use Rattle.std.proofs.lemmas.List.{length-replicate}
-use Rattle.std.proofs.lemmas.Bool.{and_parts, false≢true, ltb-false, leb-true, eqb-true, ne_eqb}
+use Rattle.std.proofs.lemmas.Bool.{and_parts, false_from_ne_true, false≢true, ltb-false, leb-true, eqb-true, ne_eqb}
 use Rattle.std.proofs.lemmas.Bool.Decides.{Decides-int_eq}
 use Rattle.std.proofs.lemmas.Nat.{from_le_bytes-to_le_bytes_4, from_le_bytes-to_le_bytes_8}
 use Rattle.std.proofs.Math.Seq.{take-append_seam}
@@ -35,6 +36,12 @@ int_back n fits = ap (λ k. Some (Int k)) (number_back n fits)
 
 pub text_back : (text : List ℕ) → is_utf8 text ≡ true → text_in text ≡ Some (Text text)
 text_back text utf8 = ap (λ b. cond b (Some (Text text)) None) utf8
+
+pub utf8_text : (text : List ℕ) → IsUtf8 text → text_in text ≡ Some (Text text)
+utf8_text text utf8 = text_back text (is_utf8-from_IsUtf8 text utf8)
+
+pub no_text : (bytes : List ℕ) → (IsUtf8 bytes → ⊥) → text_in bytes ≡ None
+no_text bytes none = ap (λ b. cond b (Some (Text bytes)) None) (false_from_ne_true (is_utf8 bytes) (λ e. none (IsUtf8-from_is_utf8 bytes e)))
 
 filled_up : (text : List ℕ) → length text ≤ 12 → take 12 (text ++ replicate 12 0) ≡ text ++ take (12 - length text) (replicate 12 0)
 filled_up text short = at 12 text (replicate 12 0) short where

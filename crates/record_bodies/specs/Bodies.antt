@@ -1,14 +1,14 @@
 -- What the body of a record says. Numbers stand with their lowest byte first.
-use Rattle.std.specs.Prelude.{ℕ, ◌+◌, ◌*◌, ◌/◌, ◌%◌, ◌^◌, ℤ, pos, Bool, true, false, cond, ◌&&◌, ◌==◌, nat_le, nat_lt, List, [], ◌∷◌, length, take, drop, slice_index, Option, Some, None}
+use Rattle.std.specs.Prelude.{ℕ, ◌+◌, ◌*◌, ◌/◌, ◌%◌, ◌^◌, ℤ, pos, Bool, true, false, cond, ◌&&◌, ◌==◌, nat_le, nat_lt, List, [], ◌∷◌, ◌++◌, length, take, drop, slice_index, Option, Some, None}
 use Rattle.std.specs.List.{slice_get}
 use Rattle.std.specs.Option.{option_and_then, option_map}
-use Rattle.std.specs.Int.{from_le_bytes, cast_signed, w16, w32, w64}
+use Rattle.std.specs.Int.{from_le_bytes, to_le_bytes, cast_signed, w16, w32, w64}
 use Rattle.std.specs.Str.{is_utf8}
 use Rattle.vec_base.specs.declared.value.Value.{Value}
 use Rattle.vec_base.specs.declared.value.Value.TheVariants.{Null, Int, Text, Blob}
 use Rattle.row_model.specs.declared.schema.Column.{Column}
 use Rattle.row_model.specs.declared.schema.Kind.{Kind}
-use Rattle.row_model.specs.declared.schema.Kind.TheVariants.{TextPartition}
+use Rattle.row_model.specs.declared.schema.Kind.TheVariants.{IntPartition, TextPartition}
 use Rattle.row_model.specs.Schemas.{is_partition}
 use Rattle.shadow_records.specs.declared.kinds.TheConstants.{TEXT_VIEW_BYTES}
 
@@ -17,6 +17,9 @@ use Rattle.shadow_records.specs.declared.kinds.TheConstants.{TEXT_VIEW_BYTES}
 -- the chunk in the first four bytes, and the slot in the two behind them
 abbrev pub place_in : List ℕ → Option (ℕ × ℕ)
 place_in body = cond (nat_le 6 (length body)) (Some (from_le_bytes w32 (take 4 body), from_le_bytes w16 (take 2 (drop 4 body)))) None
+
+abbrev pub place_bytes : ℕ → ℕ → List ℕ
+place_bytes chunk slot = to_le_bytes w32 chunk ++ to_le_bytes w16 slot
 
 -- the text id stands behind the place
 abbrev pub id_in : List ℕ → List ℕ
@@ -44,16 +47,19 @@ length_in bytes = from_le_bytes w32 (take 4 bytes)
 
 -- ---- partition values, one behind the other
 
--- how many bytes the value in front has, by its column
+-- how many bytes the value in front has, by its column; other columns have none there
 abbrev pub partition_width : Kind → List ℕ → ℕ
+partition_width IntPartition bytes = 9
 partition_width TextPartition bytes = 5 + length_in (drop 1 bytes)
-partition_width _ bytes = 9
+partition_width _ bytes = 0
 
 -- 1 and a number; or 2, the length of the text, and the text
 abbrev pub partition_value : Kind → List ℕ → Option Value
+partition_value IntPartition bytes = cond (slice_index bytes 0 == 1) (int_in (drop 1 bytes)) None
 partition_value TextPartition bytes = cond (slice_index bytes 0 == 2 && length bytes == partition_width TextPartition bytes) (text_in (drop 5 bytes)) None
-partition_value _ bytes = cond (slice_index bytes 0 == 1) (int_in (drop 1 bytes)) None
+partition_value _ bytes = None
 
+-- a first item and those behind it, where all are there
 abbrev pub joined : {X : Type 0} → Option X → Option (List X) → Option (List X)
 joined None xs = None
 joined (Some x) None = None

@@ -1,6 +1,14 @@
 //! Reading the bodies of records, and rows back from them.
 #![tactic(auto)]
 
-mod fields;
+mod bytes;
+mod partitions;
+mod places;
+mod reading;
+mod search;
+mod sources;
 
-pub use fields::read_place;
+pub use partitions::{read_partition, write_partition};
+pub use places::{read_place, write_place};
+pub use reading::{ReadRow, row};
+pub use search::body;
