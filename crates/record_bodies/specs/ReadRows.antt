@@ -1,5 +1,6 @@
 -- What the records of a table say of a row.
 use Rattle.std.specs.Prelude.{ℕ, ℤ, pos, Bool, cond, ◌&&◌, List, [], ◌∷◌, ◌++◌, Option, Some, None, is_some}
+use Rattle.std.specs.FinMap.{find}
 use Rattle.std.specs.List.{slice_get}
 use Rattle.std.specs.Option.{option_and_then, option_map}
 use Rattle.vec_base.specs.declared.shadow.ShadowKey.{ShadowKey}
@@ -10,10 +11,15 @@ use Rattle.row_model.specs.declared.schema.Kind.{Kind}
 use Rattle.row_model.specs.declared.schema.Kind.TheVariants.{IntKey, TextKey, Int8Vector, BitVector, IntPartition, TextPartition, IntMeta, TextMeta, BoolMeta, IntAux, TextAux, BlobAux}
 use Rattle.row_model.specs.Schemas.{has_role, role_of, count_of}
 use Rattle.shadow_records.specs.Cells.{cell_width}
-use Rattle.shadow_records.specs.Keys.{key_of}
+use Rattle.shadow_records.specs.Keys.{key_cmp, key_of}
 use Rattle.shadow_records.specs.PlacedTables.{PlacedRow}
 use Rattle.shadow_records.specs.declared.kinds.TheConstants.{CHUNK_RECORDS, ROW_RECORDS, VECTOR_RECORDS, METADATA_RECORDS, LONG_TEXT_RECORDS, AUXILIARY_RECORDS}
+use Rattle.record_bodies.specs.declared.reading.ReadRow.{ReadRow}
 use Rattle.record_bodies.specs.Bodies.{place_in, id_in, int_in, text_in, blob_in, partition_in, joined, cell_in, bool_in, viewed_text, side_value}
+
+-- the body of a key among records
+abbrev pub body_among : List (ShadowKey × List ℕ) → ShadowKey → Option (List ℕ)
+body_among records key = find key_cmp key records
 
 -- where the values of a row stand: among the records of a table number, under a rowid, in a slot of a chunk with these partition values; and the
 -- bytes behind the row's place
@@ -93,3 +99,7 @@ decoded_from read number columns rowid (Some body) = at_place read number column
 -- the row that the records of the table number show for a rowid
 abbrev pub decoded : (ShadowKey → Option (List ℕ)) → ℕ → List Column → ℤ → Option PlacedRow
 decoded read number columns rowid = decoded_from read number columns rowid (read (key_of number ROW_RECORDS rowid (pos 0)))
+
+-- a row that was read, as the row of a rowid
+abbrev pub read_as : ℤ → ReadRow → PlacedRow
+read_as rowid row = placed_row rowid (row.chunk, row.slot) row.values

@@ -1,12 +1,11 @@
 //! Rows that are read back from records.
-ghost use Rattle.std.specs.Prelude.{◌≡◌, ◌≤◌, [], cond, IfOk, length, None, option_copied, pos, Some, true};
-ghost use Rattle.std.specs.FinMap.{find, is_sorted};
+ghost use Rattle.std.specs.Prelude.{◌≡◌, ◌≤◌, [], IfOk, length, option_copied, Some, true};
+ghost use Rattle.std.specs.FinMap.{is_sorted};
 ghost use Rattle.std.specs.Option.{option_map};
 ghost use Rattle.row_model.specs.declared.schema.TheConstants.{MOST_COLUMNS};
-ghost use Rattle.shadow_records.specs.Keys.{key_cmp, key_of};
-ghost use Rattle.shadow_records.specs.declared.kinds.TheConstants.{CHUNK_RECORDS};
-ghost use Rattle.record_bodies.specs.ReadRows.{alike_before, decoded_from, has_slot_records, placed_row};
-ghost use Rattle.record_bodies.specs.inner.InTurn.{body_among, source_of, values_in_turn};
+ghost use Rattle.shadow_records.specs.Keys.{key_cmp};
+ghost use Rattle.record_bodies.specs.ReadRows.{alike_before, body_among, decoded_from, read_as};
+ghost use Rattle.record_bodies.specs.inner.InTurn.{partition_body, source_of, values_in_turn};
 
 use crate::bytes::{behind, front};
 use crate::partitions::partition_width;
@@ -44,7 +43,7 @@ impl<'a> RowRecords<'a> {
     /// The bytes of the partition values of the row's chunk, where the chunk's other two records are there as well.
     fn partition(&self) -> Option<&'a [u8]>
         requires { is_sorted key_cmp self.now.records.now ≡ true }
-        ensures { option_copied result ≡ cond (has_slot_records (body_among self.now.records.now) self.now.number self.now.chunk) (body_among self.now.records.now (key_of self.now.number CHUNK_RECORDS (pos self.now.chunk) (pos 0))) None }
+        ensures { option_copied result ≡ partition_body (source_of self.now) }
     {
         self.chunk_record(CHUNK_RECORDS, 1)?;
         self.chunk_record(CHUNK_RECORDS, 2)?;
@@ -62,7 +61,7 @@ impl<'a> RowRecords<'a> {
         requires few { length columns.now ≤ MOST_COLUMNS }
         ensures { IfOk result (λ values. values ≡ values_in_turn (source_of self.now) [] partition.now columns.now) }
     {
-        let mut values = List::new(alloc);
+        let mut values = List::from_vec(Vec::with_capacity(alloc, columns.len())?);
         let mut rest = partition;
         for at in 0..columns.len() {
             let kind = columns[at].kind;
@@ -95,7 +94,7 @@ pub fn row(
 ) -> Result<Option<ReadRow>, Memory>
     requires sorted { is_sorted key_cmp records.now ≡ true }
     requires few { length columns.now ≤ MOST_COLUMNS }
-    ensures { IfOk result (λ read. option_map (λ row. placed_row rowid (row.chunk, row.slot) row.values) read ≡ decoded_from (λ key. find key_cmp key records.now) number columns.now rowid (Some place.now)) }
+    ensures { IfOk result (λ read. option_map (read_as rowid) read ≡ decoded_from (body_among records.now) number columns.now rowid (Some place.now)) }
 {
     let Some((chunk, slot)) = read_place(place.as_slice()) else {
         return Ok(None);

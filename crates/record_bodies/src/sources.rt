@@ -8,7 +8,7 @@ ghost use Rattle.shadow_records.specs.Keys.{key_cmp};
 ghost use Rattle.shadow_records.specs.declared.kinds.TheConstants.{VECTOR_RECORDS};
 ghost use Rattle.record_bodies.specs.Bodies.{cell_in, viewed_text};
 ghost use Rattle.record_bodies.specs.ReadRows.{chunk_record, row_record, value_of};
-ghost use Rattle.record_bodies.specs.inner.InTurn.{source_of, value_here};
+ghost use Rattle.record_bodies.specs.inner.InTurn.{source_of, value_here, vector_cell};
 
 use crate::bytes::{behind, bool_in, cell_in, front, int_in, length_in, text_in};
 use crate::partitions::partition_value;
@@ -88,7 +88,7 @@ impl<'a> RowRecords<'a> {
     /// A vector of bytes.
     fn int8(&self, alloc: Global, before: u32, width: u16) -> Result<Option<Value>, Memory>
         requires { is_sorted key_cmp self.now.records.now ≡ true }
-        ensures { IfOk result (λ value. value ≡ option_map Int8 (option_and_then (cell_in width self.now.slot) (chunk_record (source_of self.now) VECTOR_RECORDS before))) }
+        ensures { IfOk result (λ value. value ≡ option_map Int8 (vector_cell (source_of self.now) before width)) }
     {
         match self.cell(VECTOR_RECORDS, before, width) {
             Some(cell) => Ok(Some(Value::Int8(Bytes::from_slice(alloc, cell)?))),
@@ -99,7 +99,7 @@ impl<'a> RowRecords<'a> {
     /// A vector of bits in so many bytes.
     fn bits(&self, alloc: Global, before: u32, width: u16) -> Result<Option<Value>, Memory>
         requires { is_sorted key_cmp self.now.records.now ≡ true }
-        ensures { IfOk result (λ value. value ≡ option_map Bits (option_and_then (cell_in width self.now.slot) (chunk_record (source_of self.now) VECTOR_RECORDS before))) }
+        ensures { IfOk result (λ value. value ≡ option_map Bits (vector_cell (source_of self.now) before width)) }
     {
         match self.cell(VECTOR_RECORDS, before, width) {
             Some(cell) => Ok(Some(Value::Bits(Bytes::from_slice(alloc, cell)?))),

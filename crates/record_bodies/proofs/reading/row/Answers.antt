@@ -3,8 +3,8 @@ use Rattle.std.specs.Option.{option_map}
 use Rattle.shadow_records.specs.Keys.{key_of}
 use Rattle.shadow_records.specs.declared.kinds.TheConstants.{CHUNK_RECORDS}
 use Rattle.record_bodies.specs.Bodies.{id_in, place_in}
-use Rattle.record_bodies.specs.ReadRows.{RowSource, has_slot_records, placed_row}
-use Rattle.record_bodies.specs.inner.InTurn.{body_among, values_in_turn}
+use Rattle.record_bodies.specs.ReadRows.{RowSource, body_among, has_slot_records, placed_row}
+use Rattle.record_bodies.specs.inner.InTurn.{values_in_turn}
 use Rattle.record_bodies.proofs.TurnLaws.{row_in_turn}
 use Rattle.record_bodies.proofs.reading.row.Goals as goal
 
