@@ -9,3 +9,4 @@ pub mod OneTableLaws
 pub mod PairLaws
 pub mod SearchLaws
 pub mod TurnLaws
+pub mod FormLaws

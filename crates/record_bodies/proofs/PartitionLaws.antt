@@ -28,13 +28,13 @@ pub record ReadsBack (kind : Kind) (x : Value) : Type 0 where
   pub width : (more : List ℕ) → partition_width kind (partition_value_bytes x ++ more) ≡ length (partition_value_bytes x)
   pub value : partition_value kind (partition_value_bytes x) ≡ Some x
 
-int_reads_back : (x : Value) → IsInt x → IsRepresentable x → ReadsBack IntPartition x
+pub int_reads_back : (x : Value) → IsInt x → IsRepresentable x → ReadsBack IntPartition x
 int_reads_back x is fits = subst (ReadsBack IntPartition) (sym is.1) (record { width = λ more. refl; value = int_back is.0 (subst IsRepresentable is.1 fits) })
 
 text_length : (t : List ℕ) → length t < 2 ^ 32 → length_in (to_le_bytes w32 (length t)) ≡ length t
 text_length t fits = from_le_bytes-to_le_bytes_4 (length t) fits
 
-text_reads_back : (x : Value) → IsText x → IsRepresentable x → ReadsBack TextPartition x
+pub text_reads_back : (x : Value) → IsText x → IsRepresentable x → ReadsBack TextPartition x
 text_reads_back x is fits =
     let t = is.0 in
     let long : length_in (to_le_bytes w32 (length t)) ≡ length t = text_length t is.1.1 in
@@ -63,7 +63,7 @@ abbrev bytes_of : List Value → List ℕ
 bytes_of values = flat_map partition_value_bytes values
 
 -- the value in front and those behind it
-one_back : (kind : Kind) (x : Value) (columns : List Column) (values : List Value) → ReadsBack kind x → partition_in columns (bytes_of values) ≡ Some values →
+pub one_back : (kind : Kind) (x : Value) (columns : List Column) (values : List Value) → ReadsBack kind x → partition_in columns (bytes_of values) ≡ Some values →
     joined (partition_value kind (take (partition_width kind (partition_value_bytes x ++ bytes_of values)) (partition_value_bytes x ++ bytes_of values)))
     (partition_in columns (drop (partition_width kind (partition_value_bytes x ++ bytes_of values)) (partition_value_bytes x ++ bytes_of values))) ≡ Some (x ∷ values)
 one_back kind x columns values back rest =

@@ -1,9 +1,10 @@
 //! The partition values of a chunk.
-ghost use Rattle.std.specs.Prelude.{◌≡◌, ◌++◌, IfOk, OnOk, OnErr};
+ghost use Rattle.std.specs.Prelude.{◌≡◌, ◌++◌, IfOk, MatchOption, OnOk, OnErr};
 ghost use Rattle.std.specs.List.{flat_map};
 ghost use Rattle.row_model.specs.declared.schema.Kind.TheVariants.{IntPartition, TextPartition};
 ghost use Rattle.shadow_records.specs.Cells.{partition_value_bytes};
 ghost use Rattle.record_bodies.specs.Bodies.{partition_in, partition_value, partition_width};
+ghost use Rattle.record_bodies.specs.Partitions.{IsNoPartition, IsPartition};
 
 use crate::bytes::{behind, byte_at, front, int_in, length_in, text_in};
 use row_model::{Kind, Role, Schema};
@@ -58,13 +59,8 @@ pub(crate) fn partition_value(
     }
 }
 
-/// The partition values in the body of a chunk, one for each partition column of the schema: a number under an
-/// integer column, a text under a text column. None where the body is not in this form, or a text is no UTF-8.
-pub fn read_partition(
-    alloc: Global,
-    body: &[u8],
-    schema: &Schema,
-) -> Result<Option<List<Value>>, Memory>
+/// The partition values that stand behind each other in the bytes, one for each partition column and nothing else.
+fn partition_in(alloc: Global, body: &[u8], schema: &Schema) -> Result<Option<List<Value>>, Memory>
     ensures { IfOk result (λ values. values ≡ partition_in schema.now.columns body.now) }
 {
     let mut values = List::new(alloc);
@@ -85,6 +81,19 @@ pub fn read_partition(
     } else {
         Ok(None)
     }
+}
+
+/// The partition values in the body of a chunk, one for each partition column of the schema: a number under an
+/// integer column, a text under a text column. None where the body is not in this form, or a text is no UTF-8.
+pub fn read_partition(
+    alloc: Global,
+    body: &[u8],
+    schema: &Schema,
+) -> Result<Option<List<Value>>, Memory>
+    ensures exact { IfOk result (λ values. values ≡ partition_in schema.now.columns body.now) }
+    ensures form { IfOk result (λ values. MatchOption values (IsNoPartition schema.now.columns body.now) (IsPartition schema.now.columns body.now)) }
+{
+    partition_in(alloc, body, schema)
 }
 
 /// Puts a value behind a body. After want of memory the body may have gained a part of it.
