@@ -1,7 +1,7 @@
 -- The batches of the tests can be made.
-use Rattle.std.proofs.Common.{◌≡◌, ℕ, ◌+◌, ◌≤◌, List, [], ◌∷◌, Option, Some, IsSome, refl, sym, ap, ◌∙◌, subst, lit≤}
+use Rattle.std.proofs.Common.{◌≡◌, ℕ, List, [], ◌∷◌, Option, Some, IsSome, refl, sym, ◌∙◌, subst, lit≤}
 use Rattle.std.specs.FinMap.{get, insert, get-insert, get-from_entries}
-use Rattle.shadow_records.specs.Batches.{LiesIn, AllApply, patched, patched_in}
+use Rattle.shadow_records.specs.Batches.{LiesIn, AllApply, patched_in}
 use Rattle.shadow_records.specs.Keys.{Tables}
 use Rattle.shadow_records.proofs.KeyLaws.{key_total}
 use Rattle.shadow_keeper.specs.Keeping.{tables_of}
@@ -17,14 +17,11 @@ pub all_kinds_apply : (tables : Tables) → AllApply all_kinds tables
 all_kinds_apply tables =
     let one : Tables = insert tables first_key (1 ∷ 2 ∷ 3 ∷ 4 ∷ []) in
     let two : Tables = insert one second_key (0 ∷ 0 ∷ []) in
-    let three : Tables = patched_in two first_key 1 (9 ∷ 8 ∷ []) (get two first_key) in (
-      tt,
-      tt,
-      lies_in 1 (9 ∷ 8 ∷ []) (1 ∷ 2 ∷ 3 ∷ 4 ∷ []) (get two first_key) (get-insert key_total one second_key (0 ∷ 0 ∷ []) first_key ∙ get-insert key_total tables first_key (1 ∷ 2 ∷ 3 ∷ 4 ∷ []) first_key) (lit≤ tt),
-      tt,
-      is_there (7 ∷ []) (get (insert three third_key (7 ∷ [])) third_key) (get-insert key_total three third_key (7 ∷ []) third_key),
-      tt,
-    )
+    let three : Tables = patched_in two first_key 1 (9 ∷ 8 ∷ []) (get two first_key) in
+    let found : get two first_key ≡ Some (1 ∷ 2 ∷ 3 ∷ 4 ∷ []) = get-insert key_total one second_key (0 ∷ 0 ∷ []) first_key ∙ get-insert key_total tables first_key (1 ∷ 2 ∷ 3 ∷ 4 ∷ []) first_key in
+    let within = lies_in 1 (9 ∷ 8 ∷ []) (1 ∷ 2 ∷ 3 ∷ 4 ∷ []) (get two first_key) found (lit≤ tt) in
+    let there = is_there (7 ∷ []) (get (insert three third_key (7 ∷ [])) third_key) (get-insert key_total three third_key (7 ∷ []) third_key) in
+    (tt, (tt, (within, (tt, (there, tt)))))
 
 found_second : get (tables_of three_records) second_key ≡ Some (2 ∷ 3 ∷ [])
 found_second = get-from_entries key_total three_records second_key
@@ -38,8 +35,6 @@ patched_first found e =
     subst P (sym e) (is_there (1 ∷ []) _ (get-insert key_total (tables_of three_records) second_key (5 ∷ 3 ∷ []) first_key ∙ found_first))
 
 pub later_apply : AllApply later_changes (tables_of three_records)
-later_apply = (
-  lies_in 0 (5 ∷ []) (2 ∷ 3 ∷ []) (get (tables_of three_records) second_key) found_second (lit≤ tt),
-  patched_first (get (tables_of three_records) second_key) found_second,
-  tt,
-)
+later_apply =
+    let within = lies_in 0 (5 ∷ []) (2 ∷ 3 ∷ []) (get (tables_of three_records) second_key) found_second (lit≤ tt) in
+    (within, (patched_first (get (tables_of three_records) second_key) found_second, tt))
