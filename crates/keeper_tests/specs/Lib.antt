@@ -1,0 +1,2 @@
+-- Batches: the batches that the tests commit.
+pub mod Batches
