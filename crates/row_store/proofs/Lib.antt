@@ -2,6 +2,7 @@ mod ChangeLaws
 mod FollowLaws
 mod FoundLaws
 mod KeyedLaws
+mod OccupyLaws
 mod PartLaws
 mod PickLaws
 mod PlaceLaws

@@ -86,7 +86,7 @@ pub(crate) fn claim_place(
 }
 
 /// The rowid of a claim gets its entry. The rows are as before, also after want of memory.
-fn enter(
+pub(crate) fn enter(
     alloc: Global,
     parts: &Leaves<Shared<Part>>,
     places: &Places,

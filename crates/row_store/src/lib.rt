@@ -3,9 +3,11 @@
 
 mod change;
 mod claims;
+mod occupy;
 mod part;
 mod parts;
 mod place;
+mod place_row;
 mod put;
 mod readers;
 mod remove;
@@ -13,6 +15,7 @@ mod rows;
 mod shape;
 mod store;
 mod touched;
+mod touches;
 
 pub use place::RowPlace;
 pub use readers::RowRef;

@@ -90,7 +90,7 @@ fn row_with<'a>(rows: &'a Rows, rowid: &i64) -> Option<RowRef<'a>>
 }
 
 /// Equal rows. A later change of one leaves the other.
-fn share_rows(rows: &Rows) -> Result<Rows, Memory>
+pub(crate) fn share_rows(rows: &Rows) -> Result<Rows, Memory>
     ensures { IfOk result (λ other. other ≡ rows.now) }
 {
     Ok(Rows {

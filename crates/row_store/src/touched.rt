@@ -1,7 +1,7 @@
 //! Where a store may differ from the one that it was shared from.
 ghost use Rattle.std.specs.Prelude.{◌≡◌, ◌<◌, true, [], IfOk, OnOk};
-ghost use Rattle.row_index.specs.Entries.{has_rowid};
-ghost use Rattle.slot_alloc.specs.Places.{IsChunkSize, is_used};
+ghost use Rattle.row_index.specs.Entries.{has_rowid, is_rising, next_after};
+ghost use Rattle.slot_alloc.specs.Places.{IsChunkSize, IsNextChunk, IsPlaceMap, is_used};
 ghost use Rattle.row_store.specs.Touches.{is_touched_row, is_touched_place};
 ghost use Rattle.row_store.specs.inner.Widening.{HavePlainValues, IsWider, KeepsRows, KeepsPlaces};
 
@@ -80,5 +80,45 @@ impl Touched {
     {
         touch_row(alloc, &mut self.rows, place)?;
         touch_place(alloc, &mut self.places, place)
+    }
+
+    /// The same rowids and places are touched.
+    pub(crate) fn share(&self) -> Result<Touched, Memory>
+        ensures { IfOk result (λ other. other ≡ self.now) }
+    {
+        Ok(Touched {
+            rows: self.rows.share()?,
+            places: self.places.share()?,
+        })
+    }
+
+    /// What holds of all touches. The call does nothing: its clauses are all that it gives.
+    pub(crate) fn known(&self)
+        ensures rising { is_rising self.now.rows ≡ true }
+        ensures places { IsPlaceMap self.now.places }
+    {
+        self.rows.known();
+        self.places.known();
+    }
+
+    /// The least touched rowid above one, or the least of all.
+    pub(crate) fn next_row(&self, after: Option<i64>) -> Option<i64>
+        ensures { result ≡ next_after after self.now.rows }
+    {
+        self.rows.next(after)
+    }
+
+    /// The least number above another of a chunk with a touched place.
+    pub(crate) fn next_chunk(&self, after: u32) -> Option<u32>
+        ensures { IsNextChunk self.now.places after result }
+    {
+        self.places.next_chunk(after)
+    }
+
+    /// Whether a place is touched.
+    pub(crate) fn has_place(&self, chunk: u32, slot: u16) -> bool
+        ensures { result ≡ is_touched_place self.now chunk slot }
+    {
+        self.places.partition_at(chunk, slot).is_some()
     }
 }

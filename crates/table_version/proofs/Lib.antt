@@ -8,6 +8,7 @@ pub mod KeptBytes
 pub mod KeptLaws
 pub mod OriginLaws
 pub mod PlacedLaws
+pub mod PlacingLaws
 pub mod PutLaws
 pub mod ReaderLaws
 pub mod RemoveLaws

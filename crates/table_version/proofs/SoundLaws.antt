@@ -1,10 +1,11 @@
 -- A sound store stays one: with no rows, with one row more, and with one row less.
 use Rattle.std.proofs.Common.{◌≡◌, ℕ, ℤ, pos, ◌+◌, ◌<◌, ◌≤◌, ◌^◌, true, false, List, [], ◌∷◌, ◌∙◌, refl, sym, ap, ap₂, subst, arith, length, Option}
-use Rattle.std.specs.Prelude.{◌==◌, find, sum_by, nat_lt, FitsSigned}
+use Rattle.std.specs.Prelude.{◌==◌, find, int_le, sum_by, nat_lt, FitsSigned}
 use Rattle.std.specs.Int.{w64}
 use Rattle.std.specs.List.{All, AllByRecursion}
 use Rattle.std.specs.Option.{option_map}
-use Rattle.vec_base.specs.declared.limits.TheConstants.{MOST_DIMENSIONS}
+use Rattle.std.proofs.lemmas.Int.{ints}
+use Rattle.vec_base.specs.declared.limits.TheConstants.{LAST_ROWID, MOST_DIMENSIONS}
 use Rattle.vec_base.specs.Words.{is_name}
 use Rattle.vec_base.specs.declared.value.Value.{Value}
 use Rattle.chunk_slots.specs.Slots.{vectors_of}
@@ -169,7 +170,7 @@ inserted name schema top old new sides rowid values given put =
       table = table_put name schema top old new sides rowid values given put;
     }
 
-sides_put : (old new : PlacedTable) (p : PlacedRow) (bytes more : ℕ) → new ≡ table_with old p → bytes ≡ rows_side_bytes (plain_rows old.rows) → row_side_bytes p.row ≡ more →
+pub sides_put : (old new : PlacedTable) (p : PlacedRow) (bytes more : ℕ) → new ≡ table_with old p → bytes ≡ rows_side_bytes (plain_rows old.rows) → row_side_bytes p.row ≡ more →
     bytes + more ≡ rows_side_bytes (plain_rows new.rows)
 sides_put old new p bytes more is before one =
     let whole : rows_side_bytes (plain_rows new.rows) ≡ row_side_bytes p.row + rows_side_bytes (plain_rows old.rows) =
@@ -199,12 +200,15 @@ sound-put name schema top old new sides rowid values given put shape =
 
 -- ---- no rows
 
-pub sound-empty : (name : List ℕ) (schema : Schema) (store : StoreState) → is_name name ≡ true → IsValidSchema schema →
-    store.rows ≡ [] → store.size ≡ schema.chunk_size → store.widths ≡ widths_of schema.columns → store.kinds ≡ kinds_of schema.columns → IsSound name schema (pos 0) store 0
-sound-empty name schema store named valid none size widths kinds =
-    subst (λ (rows : List StoredRow). IsSound name schema (pos 0) (record store { rows = rows }) 0) (sym none) (record {
+pub last_fits : (n : ℤ) → FitsSigned w64 n → int_le n LAST_ROWID ≡ true
+last_fits n fits = grind (arith, ints)
+
+pub sound-empty : (name : List ℕ) (schema : Schema) (top : ℤ) (store : StoreState) → is_name name ≡ true → IsValidSchema schema → int_le (pos 0) top ≡ true → int_le top LAST_ROWID ≡ true →
+    store.rows ≡ [] → store.size ≡ schema.chunk_size → store.widths ≡ widths_of schema.columns → store.kinds ≡ kinds_of schema.columns → IsSound name schema top store 0
+sound-empty name schema top store named valid from_zero last none size widths kinds =
+    subst (λ (rows : List StoredRow). IsSound name schema top (record store { rows = rows }) 0) (sym none) (record {
       placed = record {
-        valid = record { schema = valid; values = refl; rising = refl; own_ids = refl; from_zero = refl; topped = refl; few = refl; representable = tt; last = refl };
+        valid = record { schema = valid; values = refl; rising = refl; own_ids = refl; from_zero = from_zero; topped = refl; few = refl; representable = tt; last = last };
         name = named;
         places = refl;
         apart = λ i j d low high. absurd (omega (arith, high));

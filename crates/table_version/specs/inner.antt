@@ -1,4 +1,5 @@
 pub mod Refusing
+pub mod Room
 pub mod StoredBytes
 pub mod StoredTables
 pub mod Viewing

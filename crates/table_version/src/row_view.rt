@@ -63,6 +63,20 @@ fn partition_value(partition: &[Value], number: u8) -> Field<'_>
 }
 
 impl RowView<'_> {
+    /// The number of the row's chunk.
+    pub fn chunk(&self) -> u32
+        ensures { result ≡ self.now.placed.chunk }
+    {
+        self.row.chunk
+    }
+
+    /// The row's slot in its chunk.
+    pub fn slot(&self) -> u16
+        ensures { result ≡ self.now.placed.slot }
+    {
+        self.row.slot
+    }
+
     /// What stands in the column at a place, from 0, where that is no vector.
     fn field_in(&self, place: u8, kind: Kind) -> Field<'_>
         requires there { kind_in self.now.columns place ≡ Some kind }

@@ -1,5 +1,5 @@
 //! A table with its rows at their places.
-ghost use Rattle.std.specs.Prelude.{◌≡◌, true, length, IfOk};
+ghost use Rattle.std.specs.Prelude.{◌≡◌, true, pos, int_le, [], length, IfOk};
 ghost use Rattle.vec_base.specs.Words.{is_name};
 ghost use Rattle.row_model.specs.Change.{rows_side_bytes, rows_vector_bytes};
 ghost use Rattle.row_model.specs.Schemas.{IsValidSchema};
@@ -38,11 +38,26 @@ impl Model for TableVersion {
 
 impl TableVersion {
     /// A table without rows.
-    #[tactic(auto, using(crate::proofs::SoundLaws::chunk_shape, crate::proofs::WeavingLaws::all_cells))]
     pub fn new(alloc: Global, name: Txt, schema: Schema) -> Result<TableVersion, Memory>
         requires valid { IsValidSchema schema }
         requires name { is_name name ≡ true }
         ensures { IfOk result (λ version. version.table ≡ empty_table name schema) }
+    {
+        TableVersion::with_top(alloc, name, schema, 0)
+    }
+
+    /// A table without rows, which held no greater rowid than this.
+    #[tactic(auto, using(crate::proofs::SoundLaws::chunk_shape, crate::proofs::WeavingLaws::all_cells))]
+    pub fn with_top(
+        alloc: Global,
+        name: Txt,
+        schema: Schema,
+        top: i64,
+    ) -> Result<TableVersion, Memory>
+        requires valid { IsValidSchema schema }
+        requires name { is_name name ≡ true }
+        requires top { int_le (pos 0) top ≡ true }
+        ensures { IfOk result (λ version. version.table ≡ record { name = name; schema = schema; top = top; rows = [] }) }
     {
         let widths = widths_of(alloc, schema.columns.as_slice())?;
         let kinds = kinds_of(alloc, schema.columns.as_slice())?;
@@ -50,7 +65,7 @@ impl TableVersion {
         Ok(TableVersion {
             name,
             schema,
-            top: 0,
+            top,
             rows,
             side_bytes: 0,
         })

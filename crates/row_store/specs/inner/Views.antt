@@ -85,6 +85,12 @@ pub record IsClaimed (old new : PlaceMap) (partition : List Value) (rowid : ℤ)
   pub positive : 0 < at.chunk
   pub claimed : claim ≡ Some at
 
+-- a named place of a chunk with these partition values is claimed for a rowid that has its entry and no row yet
+pub record IsEntered (new : Rows) (partition : List Value) (id : Option (List ℕ)) (at : RowPlace) : Type 0 where
+  pub claimed : new.claim ≡ Some at
+  pub values : partition_of_chunk new.places at.chunk ≡ Some partition
+  pub entry : entry_of at.rowid new.index ≡ Some (record { rowid = at.rowid; chunk = at.chunk; slot = at.slot; id = id })
+
 -- a place is claimed for a rowid that has its entry and no row yet, and both are touched
 pub record IsReady (old : PlaceMap) (new : Rows) (touches : Touches) (partition : List Value) (rowid : ℤ) (id : Option (List ℕ)) (at : RowPlace) : Type 0 where
   pub claimed : IsClaimed old new.places partition rowid at new.claim
