@@ -1,5 +1,5 @@
 -- What the calls of a keeper do, and what a stop leaves.
-use Rattle.std.specs.Prelude.{◌≡◌, ◌⊎◌, ℕ, ◌≤◌, List, length, Option, Some, None, ⊤}
+use Rattle.std.specs.Prelude.{◌≡◌, ◌⊎◌, ℕ, ◌≤◌, Bool, true, false, List, [], ◌∷◌, length, Option, Some, None, ⊤}
 use Rattle.std.specs.declared.cmp.Ordering.TheVariants.{Less}
 use Rattle.std.specs.FinMap.{from_entries}
 use Rattle.std.specs.List.{AllByRecursion}
@@ -35,17 +35,32 @@ abbrev pub IsAbove : Option ShadowKey → ShadowKey → Type 0
 IsAbove None key = ⊤
 IsAbove (Some last) key = key_cmp last key ≡ Less
 
--- what holds at each answer
-abbrev pub LoadedAs : (ShadowKey → List ℕ → Type 0) → Type 0 → Type 0 → Type 0 → Loaded → Type 0
-LoadedAs One End Failed Memory (loaded.One key body) = One key body
-LoadedAs One End Failed Memory loaded.End = End
-LoadedAs One End Failed Memory loaded.Failed = Failed
-LoadedAs One End Failed Memory loaded.Memory = Memory
+-- the next record is the first of those not yet given; the end comes where none is left
+abbrev pub GivesFirst : List (ShadowKey × List ℕ) → List (ShadowKey × List ℕ) → Loaded → Type 0
+GivesFirst old new (loaded.One key body) = old ≡ (key, body) ∷ new
+GivesFirst old new loaded.End = (old ≡ []) × (new ≡ [])
+GivesFirst old new loaded.Failed = new ≡ old
+GivesFirst old new loaded.Memory = new ≡ old
 
-abbrev pub KeptAs : Type 0 → Type 0 → Type 0 → Kept → Type 0
-KeptAs Done Failed Memory kept.Done = Done
-KeptAs Done Failed Memory kept.Failed = Failed
-KeptAs Done Failed Memory kept.Memory = Memory
+-- the key that is given is above the one given last
+abbrev pub GivesKey : Option ShadowKey → Option ShadowKey → Loaded → Type 0
+GivesKey old new (loaded.One key body) = IsAbove old key × (new ≡ Some key)
+GivesKey old new loaded.End = new ≡ old
+GivesKey old new loaded.Failed = new ≡ old
+GivesKey old new loaded.Memory = new ≡ old
+
+-- a record comes before the end was told, and the end stays
+abbrev pub TellsEnd : Bool → Bool → Loaded → Type 0
+TellsEnd old new (loaded.One key body) = (old ≡ false) × (new ≡ false)
+TellsEnd old new loaded.End = new ≡ true
+TellsEnd old new loaded.Failed = new ≡ old
+TellsEnd old new loaded.Memory = new ≡ old
+
+-- the tables are the ones that the batch makes, or those from before
+abbrev pub Makes : Tables → Tables → Tables → Kept → Type 0
+Makes old made new kept.Done = new ≡ made
+Makes old made new kept.Failed = new ≡ old
+Makes old made new kept.Memory = new ≡ old
 
 -- ---- what a stop leaves: kept tables, or none where what is left can't be opened
 
@@ -69,3 +84,9 @@ Adds S old new Meets = (moment : ℕ) (left : Option Tables) → moment ≤ S.cl
 -- What a stop leaves after a batch that was not made: what it could leave before, or only the tables before the batch and with it.
 abbrev pub LeftOpen : (Option Tables → Type 0) → Tables → Tables → (Option Tables → Type 0) → Type 0
 LeftOpen before old made now = Within now before ⊎ Within now (λ left. (left ≡ Some old) ⊎ (left ≡ Some made))
+
+-- what a stop leaves after a commit
+abbrev pub LeftAfter : (Option Tables → Type 0) → Tables → Tables → (Option Tables → Type 0) → Kept → Type 0
+LeftAfter before old made now kept.Done = Within now (λ left. left ≡ Some made)
+LeftAfter before old made now kept.Failed = LeftOpen before old made now
+LeftAfter before old made now kept.Memory = Within now before

@@ -1,11 +1,13 @@
 -- What the keeper in memory holds, and what its calls answer.
-use Rattle.std.specs.Prelude.{ℕ, Bool, if◌then◌else◌, List, [], ◌∷◌, Option}
+use Rattle.std.specs.Prelude.{ℕ, Bool, true, false, if◌then◌else◌, List, [], ◌∷◌, Option}
 use Rattle.std.specs.Vec.Iter.{into_iter_items}
 use Rattle.vec_base.specs.Forms.{next_call, is_listed}
 use Rattle.vec_base.specs.declared.shadow.ShadowKey.{ShadowKey}
 use Rattle.shadow_records.specs.Keys.{Tables}
 use Rattle.shadow_keeper.specs.declared.keeper.Loaded.{Loaded}
 use Rattle.shadow_keeper.specs.declared.keeper.Loaded.TheVariants as loaded
+use Rattle.shadow_keeper.specs.declared.keeper.Kept.{Kept}
+use Rattle.shadow_keeper.specs.declared.keeper.Kept.TheVariants as kept
 use Rattle.shadow_keeper.specs.declared.memory.MemoryKeeper.{MemoryKeeper}
 use Rattle.shadow_keeper.specs.inner.Slots.{tables_in}
 
@@ -49,3 +51,7 @@ first_of (entry ∷ entries) = loaded.One entry.0 entry.1
 -- What the next call for a record answers. The listed calls fail.
 abbrev pub next_answer : MemoryKeeper → Loaded
 next_answer keeper = if next_fails keeper then loaded.Failed else first_of (memory_left keeper)
+
+abbrev pub is_failed : Kept → Bool
+is_failed kept.Failed = true
+is_failed _ = false

@@ -1,10 +1,12 @@
 //! Keepers of records, and the batches that they take.
-ghost use Rattle.std.specs.Prelude.{◌≡◌, ◌⊎◌, ◌≤◌, ℕ, Bool, true, false, IsTrue, List as Seq, [], ◌∷◌, Option, Some, ⊤};
+ghost use Rattle.std.specs.Prelude.{◌≡◌, ◌⊎◌, ◌≤◌, ℕ, Bool, IsTrue, List as Seq, Option, Some};
 ghost use Rattle.vec_base.specs.Streams.{Rose};
 ghost use Rattle.vec_base.specs.declared.shadow.ShadowKey.{ShadowKey as Key};
 ghost use Rattle.shadow_records.specs.Batches.{applied, AllApply};
 ghost use Rattle.shadow_records.specs.Keys.{Tables};
-ghost use Rattle.shadow_keeper.specs.Keeping.{AreShort, IsAbove, LoadedAs, KeptAs, Within, stops, Adds, LeftOpen};
+ghost use Rattle.shadow_keeper.specs.Keeping.{AreShort, GivesFirst, GivesKey, TellsEnd, Makes, Within, stops, Adds, LeftAfter};
+ghost use Rattle.shadow_keeper.specs.declared.keeper.Loaded.TheVariants as loaded;
+ghost use Rattle.shadow_keeper.specs.declared.keeper.Kept.TheVariants as kept;
 
 use vec_base::{Bytes, Change, List, ShadowKey};
 
@@ -72,18 +74,16 @@ pub trait Keeper {
 
     /// Gives the next record of the tables at opening: each once, with rising keys, then the end for good.
     fn next_record(&mut self) -> Loaded
-        ensures left { IsTrue (tells self.old) → LoadedAs (λ key body. left self.old ≡ (key, body) ∷ left self.new) ((left self.old ≡ []) × (left self.new ≡ [])) (left self.new ≡ left self.old) (left self.new ≡ left self.old) result }
-        ensures rising { LoadedAs (λ key _. IsAbove (last self.old) key) ⊤ ⊤ ⊤ result }
-        ensures last { LoadedAs (λ key _. last self.new ≡ Some key) (last self.new ≡ last self.old) (last self.new ≡ last self.old) (last self.new ≡ last self.old) result }
-        ensures before_end { LoadedAs (λ _ _. ended self.old ≡ false) ⊤ ⊤ ⊤ result }
-        ensures ended { LoadedAs (λ _ _. ended self.new ≡ false) (ended self.new ≡ true) (ended self.new ≡ ended self.old) (ended self.new ≡ ended self.old) result }
+        ensures left { IsTrue (tells self.old) → GivesFirst (left self.old) (left self.new) result }
+        ensures key { GivesKey (last self.old) (last self.new) result }
+        ensures ended { TellsEnd (ended self.old) (ended self.new) result }
         ensures tables { IsTrue (tells self.old) → tables self.new ≡ tables self.old }
         ensures tells { tells self.new ≡ tells self.old }
         ensures stopped { Within (stopped self.new) (stopped self.old) }
         ensures during { Adds (stops stopped moment stopped_since) self.old self.new (stopped self.old) }
         ensures clock { moment self.old ≤ moment self.new }
         ensures count { faults self.old ≤ faults self.new }
-        ensures cause { LoadedAs (λ _ _. ⊤) ⊤ (Rose (faults self.old) (faults self.new)) ⊤ result };
+        ensures failed { result ≡ loaded.Failed → Rose (faults self.old) (faults self.new) };
 
     /// Makes the changes of the batch, all or none. After any answer the keeper may be used again. Where it tells what a stop
     /// leaves: after Done a stop leaves the changed tables alone, after Failed what it could leave before, or only the
@@ -92,16 +92,15 @@ pub trait Keeper {
         requires ended { IsTrue (ended self.old) }
         requires short { AreShort batch.now.changes }
         requires fits { IsTrue (tells self.old) → AllApply batch.now.changes (tables self.old) }
-        ensures made { IsTrue (tells self.old) → KeptAs (tables self.new ≡ applied batch.now.changes (tables self.old)) (tables self.new ≡ tables self.old) (tables self.new ≡ tables self.old) result }
+        ensures made { IsTrue (tells self.old) → Makes (tables self.old) (applied batch.now.changes (tables self.old)) (tables self.new) result }
         ensures left { IsTrue (tells self.old) → left self.new ≡ left self.old }
         ensures last { last self.new ≡ last self.old }
         ensures ended { ended self.new ≡ ended self.old }
         ensures tells { tells self.new ≡ tells self.old }
-        ensures stopped { IsTrue (tells self.old) → KeptAs (Within (stopped self.new) (λ left. left ≡ Some (applied batch.now.changes (tables self.old))))
-            (LeftOpen (stopped self.old) (tables self.old) (applied batch.now.changes (tables self.old)) (stopped self.new))
-            (Within (stopped self.new) (stopped self.old)) result }
-        ensures during { IsTrue (tells self.old) → Adds (stops stopped moment stopped_since) self.old self.new (λ left. stopped self.old left ⊎ (left ≡ Some (applied batch.now.changes (tables self.old)))) }
+        ensures stopped { IsTrue (tells self.old) → LeftAfter (stopped self.old) (tables self.old) (applied batch.now.changes (tables self.old)) (stopped self.new) result }
+        ensures during { IsTrue (tells self.old) → Adds (stops stopped moment stopped_since) self.old self.new
+            (λ left. stopped self.old left ⊎ (left ≡ Some (applied batch.now.changes (tables self.old)))) }
         ensures clock { moment self.old ≤ moment self.new }
         ensures count { faults self.old ≤ faults self.new }
-        ensures cause { KeptAs ⊤ (Rose (faults self.old) (faults self.new)) ⊤ result };
+        ensures failed { result ≡ kept.Failed → Rose (faults self.old) (faults self.new) };
 }

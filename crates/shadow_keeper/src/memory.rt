@@ -7,7 +7,7 @@ ghost use Rattle.vec_base.specs.Forms.{next_call, is_listed};
 ghost use Rattle.vec_base.specs.Streams.{Rose};
 ghost use Rattle.shadow_records.specs.Batches.{applied, AllApply};
 ghost use Rattle.shadow_records.specs.Keys.{key_cmp};
-ghost use Rattle.shadow_keeper.specs.Keeping.{IsAbove, KeptAs, LoadedAs, tables_of};
+ghost use Rattle.shadow_keeper.specs.Keeping.{GivesFirst, GivesKey, TellsEnd, Makes, tables_of};
 ghost use Rattle.shadow_keeper.specs.inner.Order.{is_in_order, faults_after};
 
 use crate::body::Body;
@@ -59,7 +59,7 @@ pub struct MemoryKeeper {
 
 impl MemoryKeeper {
     ghost use Rattle.std.specs.Prelude.{[], ◌∷◌};
-    ghost use Rattle.shadow_keeper.specs.Memory.{memory_tables, memory_left, memory_last, memory_ended, memory_fails, memory_calls, memory_faults, next_fails, next_answer};
+    ghost use Rattle.shadow_keeper.specs.Memory.{memory_tables, memory_left, memory_last, memory_ended, memory_fails, memory_calls, memory_faults, next_fails, next_answer, is_failed};
 
     /// A keeper of these records, whose keys rise. The calls of these numbers fail.
     pub fn new(
@@ -100,11 +100,9 @@ impl MemoryKeeper {
     /// The next record, which is exactly `next_answer`. It takes no memory.
     pub fn give(&mut self) -> Loaded
         ensures gives { result ≡ next_answer self.old }
-        ensures left { LoadedAs (λ key body. memory_left self.old ≡ (key, body) ∷ memory_left self.new) ((memory_left self.old ≡ []) × (memory_left self.new ≡ [])) (memory_left self.new ≡ memory_left self.old) ⊤ result }
-        ensures rising { LoadedAs (λ key _. IsAbove (memory_last self.old) key) ⊤ ⊤ ⊤ result }
-        ensures last { LoadedAs (λ key _. memory_last self.new ≡ Some key) (memory_last self.new ≡ memory_last self.old) (memory_last self.new ≡ memory_last self.old) ⊤ result }
-        ensures before_end { LoadedAs (λ _ _. memory_ended self.old ≡ false) ⊤ ⊤ ⊤ result }
-        ensures ended { LoadedAs (λ _ _. memory_ended self.new ≡ false) (memory_ended self.new ≡ true) (memory_ended self.new ≡ memory_ended self.old) ⊤ result }
+        ensures left { GivesFirst (memory_left self.old) (memory_left self.new) result }
+        ensures key { GivesKey (memory_last self.old) (memory_last self.new) result }
+        ensures ended { TellsEnd (memory_ended self.old) (memory_ended self.new) result }
         ensures tables { memory_tables self.new ≡ memory_tables self.old }
         ensures fails { memory_fails self.new ≡ memory_fails self.old }
         ensures calls { memory_calls self.new ≡ next_call (memory_calls self.old) }
@@ -129,8 +127,8 @@ impl MemoryKeeper {
     /// Makes the changes of the batch, all or none, in time that goes with the batch. It fails exactly where the call is listed.
     pub fn keep(&mut self, batch: &Batch) -> Kept
         requires { AllApply batch.now.changes (memory_tables self.old) }
-        ensures fails_as_listed { KeptAs (next_fails self.old ≡ false) (next_fails self.old ≡ true) (next_fails self.old ≡ false) result }
-        ensures made { KeptAs (memory_tables self.new ≡ applied batch.now.changes (memory_tables self.old)) (memory_tables self.new ≡ memory_tables self.old) (memory_tables self.new ≡ memory_tables self.old) result }
+        ensures fails_as_listed { is_failed result ≡ next_fails self.old }
+        ensures made { Makes (memory_tables self.old) (applied batch.now.changes (memory_tables self.old)) (memory_tables self.new) result }
         ensures left { memory_left self.new ≡ memory_left self.old }
         ensures last { memory_last self.new ≡ memory_last self.old }
         ensures ended { memory_ended self.new ≡ memory_ended self.old }
