@@ -1,0 +1,11 @@
+pub mod AttachLaws
+pub mod CompleteLaws
+pub mod FillLaws
+pub mod InfoLaws
+pub mod KeyFacts
+pub mod NameLaws
+pub mod OpenLaws
+pub mod RowFacts
+pub mod SchemaTexts
+pub mod ShownLaws
+pub mod StepLaws
