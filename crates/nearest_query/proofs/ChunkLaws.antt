@@ -14,7 +14,8 @@ use Rattle.knn_plan.specs.PlannedColumns.{term_column}
 use Rattle.shadow_records.specs.PlacedTables.{PlacedRow, PlacedTable, IsPlaced, first_in, is_place, row_at}
 use Rattle.table_version.specs.Inserting.{partition_in}
 use Rattle.nearest_query.specs.Gathered.{up_to}
-use Rattle.nearest_query.specs.Searches.{IsMetChunk, above_chunks, is_wanted, meets_all_on_partition, on_row, one_if_wanted, wanted_below}
+use Rattle.nearest_query.specs.Searches.{above_chunks, is_wanted, meets_all_on_partition, on_row, one_if_wanted, wanted_below}
+use Rattle.nearest_query.specs.inner.Scanning.{IsMetChunk}
 use Rattle.nearest_query.proofs.Gathering.{up_to-skip}
 use Rattle.nearest_query.proofs.PlaceLaws.{alike_first, first-row, none-in}
 use Rattle.nearest_query.proofs.TermFacts.{value_met}

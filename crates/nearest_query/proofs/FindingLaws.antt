@@ -23,7 +23,8 @@ use Rattle.topk_merge.specs.Hits.{is_before}
 use Rattle.topk_merge.proofs.HitLaws.{hit_order, same_hit, offered_hits, rising_ranked}
 use Rattle.topk_merge.proofs.OrderLaws.{all_placed-append, offered-all, placed-all}
 use Rattle.nearest_query.specs.Gathered.{found, gathered}
-use Rattle.nearest_query.specs.Searches.{IsReady, above_chunks, hit_of, hits_in, hits_over, is_read, is_read_row, is_wanted, is_within, nearest_hits, one_if_wanted, read_rows, row_hit, wanted_below, wanted_chunks}
+use Rattle.nearest_query.specs.Searches.{above_chunks, hit_of, is_read, is_wanted, nearest_hits, one_if_wanted, read_rows, wanted_below, wanted_chunks}
+use Rattle.nearest_query.specs.inner.Scanning.{IsReady, hits_in, hits_over, is_read_row, is_within, row_hit}
 use Rattle.nearest_query.proofs.ChunkLaws.{above-is, place_parts, wanted-row}
 use Rattle.nearest_query.proofs.Gathering.{IsShuffle, filter-gathered, gathered-shuffle, length-shuffle, up_to-none}
 use Rattle.nearest_query.proofs.PlaceLaws.{are_free}

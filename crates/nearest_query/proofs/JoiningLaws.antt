@@ -11,8 +11,8 @@ use Rattle.shadow_records.specs.PlacedTables.{PlacedTable}
 use Rattle.topk_merge.specs.declared.hit.Hit.{Hit}
 use Rattle.topk_merge.specs.Hits.{is_before}
 use Rattle.topk_merge.proofs.HitLaws.{merged_hits}
-use Rattle.nearest_query.specs.Searches.{hits_in, hits_over, is_within, ticked}
-use Rattle.nearest_query.specs.Pieces.{PieceState, best_of, new_piece, new_pieces, parted, parts_of, piece_scanned, pieces_of, reads_of}
+use Rattle.nearest_query.specs.inner.Scanning.{hits_in, hits_over, is_within, ticked}
+use Rattle.nearest_query.specs.inner.Pieces.{PieceState, best_of, new_piece, new_pieces, parted, parts_of, piece_scanned, pieces_of, reads_of}
 use Rattle.nearest_query.proofs.Gathering.{filter-append}
 
 parts_step : (n m : ℕ) (cs part rest : List ℕ) → n ≡ suc m → part ≡ take (length cs / n) cs → rest ≡ drop (length cs / n) cs → parts_of n cs ≡ part ∷ parts_of m rest

@@ -23,7 +23,8 @@ use Rattle.topk_merge.specs.declared.hit.Hit.{Hit}
 use Rattle.topk_merge.specs.Hits.{is_before}
 use Rattle.topk_merge.specs.Ranking.{Ranking}
 use Rattle.nearest_query.specs.Gathered.{up_to, found}
-use Rattle.nearest_query.specs.Searches.{IsReady, is_read_row, is_within, meets_all_on_metadata, meets_all_on_partition, on_row, row_hit, ticked, with_offers}
+use Rattle.nearest_query.specs.Searches.{meets_all_on_partition, on_row}
+use Rattle.nearest_query.specs.inner.Scanning.{IsReady, is_read_row, is_within, meets_all_on_metadata, row_hit, ticked, with_offers}
 use Rattle.nearest_query.proofs.Gathering.{filter-append}
 use Rattle.nearest_query.proofs.ReadLaws.{read_by_levels}
 use Rattle.nearest_query.proofs.VectorLaws.{vector_read}

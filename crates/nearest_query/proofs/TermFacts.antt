@@ -38,7 +38,7 @@ use Rattle.knn_plan.proofs.RowidLaws.{rowid_value}
 use Rattle.knn_plan.proofs.TermLaws.{IsTermFor, terms_fit}
 use Rattle.shadow_records.specs.PlacedTables.{PlacedRow, PlacedTable, partition_of, plain_rows, row_at, row_of, value_in}
 use Rattle.table_version.specs.Viewed.{column_value, is_vector_column, is_kind_of, kind_numbered}
-use Rattle.nearest_query.specs.Searches.{IsReady}
+use Rattle.nearest_query.specs.inner.Scanning.{IsReady}
 use Rattle.nearest_query.proofs.PlaceLaws.{found_passes}
 use Rattle.nearest_query.proofs.VectorLaws.{row_wide, target_there}
 

@@ -33,7 +33,7 @@ use Rattle.shadow_records.specs.PlacedTables.{PlacedRow, PlacedTable, plain, pla
 use Rattle.table_version.specs.Kept.{widths_of}
 use Rattle.table_version.proofs.SettingLaws.{vector_in}
 use Rattle.table_version.proofs.WeavingLaws.{one_if, one_width}
-use Rattle.nearest_query.specs.Searches.{IsReady}
+use Rattle.nearest_query.specs.inner.Scanning.{IsReady}
 use Rattle.nearest_query.proofs.PlaceLaws.{all_there, row_there}
 
 -- ---- values of vector columns

@@ -2,8 +2,8 @@
 ghost use Rattle.std.specs.Prelude.{◌≡◌, ◌<◌, ◌≤◌, ◌++◌, length, IfOk};
 ghost use Rattle.std.specs.List.{AllByRecursion};
 ghost use Rattle.vec_base.specs.Counts.{raised};
-ghost use Rattle.nearest_query.specs.Searches.{IsMetChunk, IsReady};
-ghost use Rattle.nearest_query.specs.Pieces.{best_of, new_piece, new_pieces, parted, parts_of, pieces_of, reads_of};
+ghost use Rattle.nearest_query.specs.inner.Scanning.{IsMetChunk, IsReady};
+ghost use Rattle.nearest_query.specs.inner.Pieces.{best_of, new_piece, new_pieces, parted, parts_of, pieces_of, reads_of};
 
 use crate::scan::scan_chunks;
 use chunk_bitmap::Bitmap;
@@ -29,8 +29,8 @@ pub(crate) struct ScanPiece<'a> {
 impl<'a> Model for ScanPiece<'a> {
     ghost use Rattle.std.specs.Prelude.{◌≡◌, length};
     ghost use Rattle.std.specs.List.{AllByRecursion};
-    ghost use Rattle.nearest_query.specs.Pieces.{PieceState};
-    ghost use Rattle.nearest_query.specs.Searches.{IsMetChunk, IsReady};
+    ghost use Rattle.nearest_query.specs.inner.Pieces.{PieceState};
+    ghost use Rattle.nearest_query.specs.inner.Scanning.{IsMetChunk, IsReady};
 
     ghost Value = { PieceState };
 
@@ -40,7 +40,7 @@ impl<'a> Model for ScanPiece<'a> {
 }
 
 impl<'a> Piece for ScanPiece<'a> {
-    ghost use Rattle.nearest_query.specs.Pieces.{piece_scanned};
+    ghost use Rattle.nearest_query.specs.inner.Pieces.{piece_scanned};
 
     ghost scanned = { piece_scanned };
 

@@ -7,7 +7,8 @@ ghost use Rattle.shadow_records.specs.PlacedTables.{PlacedRow, row_at};
 ghost use Rattle.table_version.specs.Kept.{widths_of};
 ghost use Rattle.table_version.specs.Versions.{slot_of_row};
 ghost use Rattle.nearest_query.specs.Gathered.{found};
-ghost use Rattle.nearest_query.specs.Searches.{IsMetChunk, IsReady, hits_in, hits_over, is_read_row, meets_all_on_metadata, meets_all_on_partition, on_row, row_hit, ticked, with_offers};
+ghost use Rattle.nearest_query.specs.Searches.{meets_all_on_partition, on_row};
+ghost use Rattle.nearest_query.specs.inner.Scanning.{IsMetChunk, IsReady, hits_in, hits_over, is_read_row, meets_all_on_metadata, row_hit, ticked, with_offers};
 
 use crate::distance::distance_to;
 use crate::terms::{bounds_met, filter_all, rest_met};

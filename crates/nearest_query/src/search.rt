@@ -1,12 +1,13 @@
 //! The search of the nearest rows.
-ghost use Rattle.std.specs.Prelude.{◌≡◌, ◌<◌, ◌≤◌, ◌+◌, min, map, filter, length, [], IfOk, is_some, true};
+ghost use Rattle.std.specs.Prelude.{◌≡◌, ◌<◌, ◌≤◌, ◌+◌, ◌^◌, min, map, filter, length, [], IfOk, is_some, true};
 ghost use Rattle.std.specs.List.{AllByRecursion};
 ghost use Rattle.vec_base.specs.declared.limits.TheConstants.{LAST_COUNT};
 ghost use Rattle.vec_base.specs.inner.Offers.{offered};
 ghost use Rattle.knn_plan.specs.Plans.{IsPlanFor};
 ghost use Rattle.topk_merge.specs.Hits.{is_before};
-ghost use Rattle.nearest_query.specs.Searches.{IsMetChunk, IsReady, hits_over, is_within, nearest_hits, read_rows, wanted_chunks};
-ghost use Rattle.nearest_query.specs.Pieces.{best_of, piece_scanned, pieces_of, reads_of};
+ghost use Rattle.nearest_query.specs.Searches.{nearest_hits, read_rows, wanted_chunks};
+ghost use Rattle.nearest_query.specs.inner.Scanning.{IsMetChunk, IsReady, hits_over, is_within};
+ghost use Rattle.nearest_query.specs.inner.Pieces.{best_of, piece_scanned, pieces_of, reads_of};
 
 use crate::piece::{ScanPiece, add_pieces, gather};
 use crate::wanted::wanted;
@@ -26,7 +27,7 @@ fn scan_and_gather<G: Gate, R: Threads + Sync>(
     best: &mut Best,
     steps: &mut Steps,
 )
-    requires few { length pieces.old < 4294967296 }
+    requires few { length pieces.old < 2 ^ 32 }
     ensures room { best.new.room ≡ best.old.room }
     ensures hits { best.new.hits ≡ best_of best.old.room best.old.hits (map piece_scanned pieces.old) }
     ensures reads { steps.new.reads ≡ reads_of steps.old.reads (map piece_scanned pieces.old) }
@@ -52,7 +53,7 @@ fn search_chunks<'a, G: Gate, R: Threads + Sync>(
     requires ready { IsReady table.now.table plan.now target.now }
     requires met { AllByRecursion (IsMetChunk table.now.table plan.now.select.where_terms) chunks.now }
     requires some { count ≡ 0 → chunks.now ≡ [] }
-    requires few { count < 256 }
+    requires few { count < 2 ^ 8 }
     ensures hits { IfOk result (λ hits. hits ≡ offered is_before k [] (filter (is_within table.now.table.schema.columns plan.now.select.where_terms) (hits_over table.now.table plan.now.select.where_terms target.now chunks.now))) }
     ensures reads { steps.new.reads ≤ steps.old.reads + length (hits_over table.now.table plan.now.select.where_terms target.now chunks.now) }
     ensures pieces { IfOk result (λ _. min (steps.old.pieces + count) LAST_COUNT ≤ steps.new.pieces) }

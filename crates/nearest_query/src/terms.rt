@@ -15,7 +15,7 @@ ghost use Rattle.knn_plan.specs.TermUses.{is_on_chunks, is_on_rows};
 ghost use Rattle.knn_plan.proofs.TermLaws.{IsTermFor};
 ghost use Rattle.shadow_records.specs.PlacedTables.{PlacedRow, first_in, row_at, row_of};
 ghost use Rattle.table_version.specs.Viewed.{ViewedRow, column_value, is_vector_column};
-ghost use Rattle.nearest_query.specs.Searches.{IsReady};
+ghost use Rattle.nearest_query.specs.inner.Scanning.{IsReady};
 
 use crate::field::{passes, value_passes};
 use chunk_bitmap::Bitmap;

@@ -1,7 +1,8 @@
 //! The chunks that a search looks into.
 ghost use Rattle.std.specs.Prelude.{◌≡◌, IfOk};
 ghost use Rattle.knn_plan.specs.Plans.{PlannedTarget};
-ghost use Rattle.nearest_query.specs.Searches.{IsReady, is_wanted, wanted_chunks};
+ghost use Rattle.nearest_query.specs.Searches.{is_wanted, wanted_chunks};
+ghost use Rattle.nearest_query.specs.inner.Scanning.{IsReady};
 
 use crate::terms::value_met;
 use knn_plan::Plan;

@@ -1,6 +1,6 @@
 use Rattle.std.proofs.Common.{◌≡◌, ◌∙◌, ap, ℕ, suc, ◌-◌, arith}
 use Rattle.std.proofs.lemmas.Result.{IfOk-weaker}
-use Rattle.nearest_query.specs.Pieces.{parted}
+use Rattle.nearest_query.specs.inner.Pieces.{parted}
 use Rattle.nearest_query.proofs.JoiningLaws.{parted_step, pieces_step}
 use Rattle.nearest_query.proofs.piece.+add_pieces.Goals as goal
 

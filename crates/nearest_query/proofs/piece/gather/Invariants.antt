@@ -1,5 +1,5 @@
 use Rattle.std.proofs.Common.{◌≡◌, drop}
-use Rattle.nearest_query.specs.Pieces.{best_of, pieces_of, reads_of}
+use Rattle.nearest_query.specs.inner.Pieces.{best_of, pieces_of, reads_of}
 use Rattle.nearest_query.proofs.piece.gather.Given as goal
 
 abbrev pub invariant-loop-piece : goal.invariant-loop-piece

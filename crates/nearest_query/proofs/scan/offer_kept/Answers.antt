@@ -2,7 +2,7 @@ use Rattle.std.proofs.Common.{◌∙◌, ℕ, List}
 use Rattle.shadow_records.specs.PlacedTables.{row_at}
 use Rattle.topk_merge.specs.declared.hit.Hit.{Hit}
 use Rattle.nearest_query.specs.Gathered.{found}
-use Rattle.nearest_query.specs.Searches.{is_read_row, row_hit}
+use Rattle.nearest_query.specs.inner.Scanning.{is_read_row, row_hit}
 use Rattle.nearest_query.proofs.ScanLaws.{offers-more, ticks-more}
 use Rattle.nearest_query.proofs.scan.offer_kept.Goals as goal
 

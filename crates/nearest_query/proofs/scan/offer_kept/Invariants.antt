@@ -1,6 +1,6 @@
 use Rattle.std.proofs.Common.{◌≡◌, length}
 use Rattle.nearest_query.specs.Gathered.{found_in}
-use Rattle.nearest_query.specs.Searches.{is_read_row, row_hit, ticked, with_offers}
+use Rattle.nearest_query.specs.inner.Scanning.{is_read_row, row_hit, ticked, with_offers}
 use Rattle.nearest_query.proofs.scan.offer_kept.Given as goal
 
 abbrev pub invariant-loop-slot : goal.invariant-loop-slot

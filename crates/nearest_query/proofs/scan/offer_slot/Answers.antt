@@ -5,7 +5,7 @@ use Rattle.chunk_slots.specs.Slots.{slot_at}
 use Rattle.shadow_records.specs.PlacedTables.{row_at, row_of}
 use Rattle.topk_merge.specs.declared.hit.Hit.{Hit}
 use Rattle.nearest_query.specs.Gathered.{found}
-use Rattle.nearest_query.specs.Searches.{is_read_row, row_hit, ticked, with_offers}
+use Rattle.nearest_query.specs.inner.Scanning.{is_read_row, row_hit, ticked, with_offers}
 use Rattle.nearest_query.proofs.PlaceLaws.{row-of_place}
 use Rattle.nearest_query.proofs.ScanLaws.{at-slot, failing, missing, passing}
 use Rattle.nearest_query.proofs.scan.offer_slot.Goals as goal

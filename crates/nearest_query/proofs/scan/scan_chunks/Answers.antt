@@ -1,5 +1,5 @@
 use Rattle.std.proofs.Common.{◌∙◌, get_or}
-use Rattle.nearest_query.specs.Searches.{hits_in}
+use Rattle.nearest_query.specs.inner.Scanning.{hits_in}
 use Rattle.nearest_query.proofs.ScanLaws.{over-more, ticks-over}
 use Rattle.std.proofs.lemmas.List.{get_or_default}
 use Rattle.nearest_query.proofs.scan.scan_chunks.Goals as goal

@@ -1,5 +1,5 @@
 use Rattle.std.proofs.Common.{◌≡◌, length, take}
-use Rattle.nearest_query.specs.Searches.{hits_over, ticked, with_offers}
+use Rattle.nearest_query.specs.inner.Scanning.{hits_over, ticked, with_offers}
 use Rattle.nearest_query.proofs.scan.scan_chunks.Given as goal
 
 abbrev pub invariant-loop-chunk : goal.invariant-loop-chunk

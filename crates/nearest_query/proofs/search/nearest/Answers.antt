@@ -1,6 +1,6 @@
 use Rattle.std.proofs.Common.{◌∙◌, sym, arith}
 use Rattle.std.proofs.lemmas.Result.{IfOk-weaker}
-use Rattle.nearest_query.specs.Searches.{IsReady}
+use Rattle.nearest_query.specs.inner.Scanning.{IsReady}
 use Rattle.nearest_query.proofs.FindingLaws.{nearest_found, reads_found}
 use Rattle.nearest_query.proofs.VectorLaws.{few_hits}
 use Rattle.nearest_query.proofs.search.nearest.Goals as goal

@@ -1,6 +1,7 @@
 use Rattle.std.proofs.Common.{◌∙◌, sym, subst, ℕ, List}
 use Rattle.std.specs.List.{AllByRecursion}
-use Rattle.nearest_query.specs.Searches.{IsMetChunk, above_chunks}
+use Rattle.nearest_query.specs.Searches.{above_chunks}
+use Rattle.nearest_query.specs.inner.Scanning.{IsMetChunk}
 use Rattle.nearest_query.proofs.ChunkLaws.{all-met}
 use Rattle.nearest_query.proofs.search.search.Goals as goal
 

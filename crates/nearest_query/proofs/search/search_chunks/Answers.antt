@@ -1,6 +1,6 @@
 use Rattle.std.proofs.Common.{◌∙◌, arith, refl}
 use Rattle.std.specs.Prelude.{map}
-use Rattle.nearest_query.specs.Pieces.{piece_scanned}
+use Rattle.nearest_query.specs.inner.Pieces.{piece_scanned}
 use Rattle.nearest_query.proofs.JoiningLaws.{few_pieces, gathered_from, hits_gathered, most_gathered, pieces_gathered, reads_gathered}
 use Rattle.nearest_query.proofs.search.search_chunks.Goals as goal
 

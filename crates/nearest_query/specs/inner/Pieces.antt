@@ -7,7 +7,7 @@ use Rattle.shadow_records.specs.PlacedTables.{PlacedTable}
 use Rattle.topk_merge.specs.declared.hit.Hit.{Hit}
 use Rattle.topk_merge.specs.Hits.{is_before}
 use Rattle.topk_merge.specs.Ranking.{Ranking}
-use Rattle.nearest_query.specs.Searches.{hits_over, ticked, with_offers}
+use Rattle.nearest_query.specs.inner.Scanning.{hits_over, ticked, with_offers}
 
 -- chunks that are to be scanned, with what was found and counted
 pub record PieceState : Type 0 where
