@@ -1,7 +1,7 @@
 -- The records of one kind of a chunk or a row.
-use Rattle.std.proofs.Common.{◌≡◌, ℕ, ℤ, pos, negsuc, List, Bool, true, false, ◌||◌, Option, Some, None, ⊎_elim, refl, sym, ap, ◌∙◌, subst, arith}
+use Rattle.std.proofs.Common.{◌≡◌, ℕ, ℤ, pos, negsuc, List, true, false, ◌||◌, Option, Some, None, ⊎_elim, refl, sym, ap, ◌∙◌, subst, arith}
 use Rattle.std.specs.Ordering.{int_eq}
-use Rattle.std.proofs.lemmas.Bool.{false≢true, or_cases}
+use Rattle.std.proofs.lemmas.Bool.{or_cases}
 use Rattle.row_model.specs.declared.schema.Schema.{Schema}
 use Rattle.vec_base.specs.declared.shadow.Change.{Change}
 use Rattle.vec_base.specs.declared.shadow.ShadowKey.{ShadowKey}

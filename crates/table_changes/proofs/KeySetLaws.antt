@@ -1,7 +1,7 @@
 -- Steps over sets of keys make one over a larger set.
-use Rattle.std.proofs.Common.{◌≡◌, ℕ, ℤ, zero, suc, pos, negsuc, ◌+◌, ◌<◌, ◌≤◌, ◌==◌, int_lt, List, Bool, true, false, not, ◌&&◌, ◌||◌, Option, Some, None, ◌⊎◌, ⊎_elim, inl, inr, refl, sym, ap, ◌∙◌, subst, arith, nat_lt, nat_le}
+use Rattle.std.proofs.Common.{◌≡◌, ℕ, ℤ, pos, negsuc, ◌+◌, ◌<◌, ◌≤◌, ◌==◌, int_lt, List, Bool, true, false, ◌&&◌, ◌||◌, Option, Some, None, ◌⊎◌, ⊎_elim, inl, inr, refl, sym, ap, ◌∙◌, subst, arith, nat_lt, nat_le}
 use Rattle.std.specs.Ordering.{int_eq}
-use Rattle.std.proofs.lemmas.Bool.{false≢true, and_parts, and_from, and_left, and_right, or_cases, or_left, or_right, or_from, or_parts, false_from_ne_true, eqb-true, eqb-false, eq-eqb, cases_Bool, cases_eq, ltb-true, ltb-false, lt-ltb, le-ltb, leb-true, leb-false, le-leb, lt-leb, not-true, not-false, not_from_true, not_from_false}
+use Rattle.std.proofs.lemmas.Bool.{false≢true, and_parts, and_from, and_right, or_cases, or_left, or_right, or_from, or_parts, false_from_ne_true, eqb-true, eq-eqb, cases_Bool, cases_eq, ltb-true, ltb-false, lt-ltb, le-ltb, leb-true, le-leb, not-true, not-false, not_from_true, not_from_false}
 use Rattle.std.proofs.lemmas.Bool.Decides.{Decides-int_eq}
 use Rattle.std.proofs.lemmas.Int.{ints}
 use Rattle.vec_base.specs.declared.shadow.Change.{Change}
@@ -11,8 +11,8 @@ use Rattle.shadow_records.specs.Keys.{is_key, key_of}
 use Rattle.shadow_records.specs.PlacedTables.{PlacedTable}
 use Rattle.shadow_records.specs.StandsFor.{record_in}
 use Rattle.shadow_records.proofs.KeyLaws.{key_is, is_key-same}
-use Rattle.table_changes.specs.inner.KeySets.{AreSame, is_below, is_chunk_kind, is_in_group, is_info_kind, is_not_behind, is_of, is_row_kind, is_up_to, is_within}
-use Rattle.table_changes.specs.inner.Steps.{Rewrites, TurnsKeys}
+use Rattle.table_changes.specs.inner.KeySets.{AreSame, is_below, is_in_group, is_not_behind, is_of, is_up_to, is_within}
+use Rattle.table_changes.specs.inner.Steps.{TurnsKeys}
 use Rattle.table_changes.proofs.Steps.{rewrites-then, rewrites-wider}
 
 never : {A : Type 0} (b : Bool) → b ≡ true → b ≡ false → A

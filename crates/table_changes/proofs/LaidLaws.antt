@@ -3,7 +3,7 @@ use Rattle.std.proofs.Common.{◌≡◌, ℕ, zero, suc, ◌+◌, ◌*◌, ◌<�
 use Rattle.std.proofs.lemmas.List.{take-append-le, append-nil, replicate-append-replicate}
 use Rattle.std.proofs.lemmas.Bool.{cases_eq, eq-eqb, ne_eqb}
 use Rattle.std.proofs.Math.Seq.{take-append_seam}
-use Rattle.record_bodies.proofs.CellLaws.{drop_seam, length-laid, room}
+use Rattle.record_bodies.proofs.CellLaws.{length-laid, room}
 use Rattle.shadow_records.specs.Batches.{patched}
 use Rattle.shadow_records.specs.Cells.{laid}
 

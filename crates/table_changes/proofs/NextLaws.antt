@@ -1,7 +1,7 @@
 -- The next chunk and the next row that may differ.
-use Rattle.std.proofs.Common.{◌≡◌, ℕ, zero, suc, ◌<◌, ◌≤◌, ◌+◌, ◌-◌, ◌^◌, ℤ, pos, negsuc, int_lt, List, [], ◌∷◌, map, cond, Bool, true, false, ◌&&◌, ◌||◌, Option, Some, None, is_some, refl, sym, ap, ◌∙◌, subst, arith, Bor, w64, SFits}
+use Rattle.std.proofs.Common.{◌≡◌, ℕ, ◌<◌, ℤ, int_lt, List, [], ◌∷◌, cond, Bool, true, false, ◌&&◌, ◌||◌, Option, Some, None, is_some, refl, sym, ap, ◌∙◌, subst, arith, Bor}
 use Rattle.std.specs.Prelude.{MatchOption}
-use Rattle.std.specs.List.{find, list_all, list_any}
+use Rattle.std.specs.List.{find, list_all}
 use Rattle.std.specs.Option.{option_map}
 use Rattle.std.specs.Ordering.{int_eq}
 use Rattle.std.proofs.lemmas.Bool.{false≢true, and_parts, false_from_ne_true}
@@ -13,24 +13,20 @@ use Rattle.row_model.specs.Rows.{is_rising as rows_rise}
 use Rattle.row_model.specs.declared.row.Row.{Row}
 use Rattle.row_store.specs.Keyed.{keyed_by, keys_rise}
 use Rattle.row_store.specs.StoredRows.{is_above}
-use Rattle.row_store.specs.Touches.{Touches, is_touched_place, is_touched_row}
 use Rattle.slot_alloc.specs.Places.{PlaceMap, chunk_with, has_chunk, is_used, partition_in, partition_in_slot}
 use Rattle.slot_alloc.specs.Places.{IsNextChunk as IsNextUsed}
 use Rattle.slot_alloc.specs.declared.chunk.Chunk.{Chunk}
+use Rattle.record_bodies.proofs.FindLaws.{found_passes, some_is}
 use Rattle.shadow_records.specs.PlacedTables.{PlacedRow, PlacedTable, IsPlaced, first_in, plain_rows, row_of}
 use Rattle.shadow_records.specs.Records.{body_at}
 use Rattle.table_version.specs.Versions.{Follows, VersionState, next_row, rowid_in}
 use Rattle.table_changes.specs.declared.turn.Turn.{Turn}
 use Rattle.table_changes.specs.declared.turn.Turn.TheVariants.{Over, Made, Gone}
-use Rattle.table_changes.specs.inner.KeySets.{AreSame, is_chunk_kind, is_row_kind}
-use Rattle.table_changes.specs.inner.Turns.{HaveSchema, IsNextChunk, IsNextRow, IsSameChunk, IsSameRow, IsTurn, newer_in, older_in}
+use Rattle.table_changes.specs.inner.Turns.{IsNextChunk, IsNextRow, IsSameChunk, IsSameRow, IsTurn}
 use Rattle.table_changes.proofs.SameLaws.{no_chunk, no_row, same_chunk, same_row}
 
 never : {A : Type 0} (b : Bool) → b ≡ true → b ≡ false → A
 never b t f = absurd (false≢true (sym f ∙ t))
-
-some_is : {X : Type 0} {x y : X} → Some x ≡ Some y → x ≡ y
-some_is e = cc
 
 match_more : {X : Type 0} (o : Option X) (P P' : Type 0) (Q Q' : X → Type 0) → (P → P') → ((x : X) → Q x → Q' x) → MatchOption o P Q → MatchOption o P' Q'
 match_more None P P' Q Q' none some holds = none holds
@@ -70,13 +66,6 @@ between key test (x ∷ xs) y rises found i is less = by (test (key x)) refl fou
       let under : int_lt i (key x) ≡ true = ap (int_lt i) (sym same) ∙ less in
       ap (λ b. cond b (Some x) (keyed_by key i xs)) (lt_apart (key x) i under) ∙ nowhere key xs (key x) i (and_parts (list_all (λ z. int_lt (key x) (key z)) xs) (keys_rise key xs) rises).0 under
   by false e f rest = ap (λ b. cond b (Some x) (keyed_by key i xs)) (other_key test (key x) i e is) ∙ rest (and_parts (list_all (λ z. int_lt (key x) (key z)) xs) (keys_rise key xs) rises).1 f i is less
-
-found_passes : {A : Type 0} (test : A → Bool) (xs : List A) (x : A) → find test xs ≡ Some x → test x ≡ true
-found_passes test [] x e = absurd cc
-found_passes test (y ∷ xs) x e = at (found_passes test xs x) (test y) refl e where
-  at : (find test xs ≡ Some x → test x ≡ true) → (b : Bool) → test y ≡ b → cond b (Some y) (find test xs) ≡ Some x → test x ≡ true
-  at rest true g f = ap test (sym (some_is f)) ∙ g
-  at rest false g f = rest f
 
 next_of : {A : Type 0} (key : A → ℤ) (test : ℤ → Bool) (xs : List A) → keys_rise key xs ≡ true → (o : Option A) → find (λ x. test (key x)) xs ≡ o
     → MatchOption (option_map key o) ((i : ℤ) → test i ≡ true → keyed_by key i xs ≡ None)

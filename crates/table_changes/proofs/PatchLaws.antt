@@ -1,8 +1,7 @@
 -- Patches of some cells, one after another.
-use Rattle.std.proofs.Common.{◌≡◌, ℕ, zero, suc, ◌+◌, ◌*◌, ◌<◌, ◌≤◌, ◌==◌, List, [], ◌∷◌, ◌++◌, length, take, get_or, cond, Bool, true, false, ◌||◌, Option, Some, None, refl, sym, ap, ◌∙◌, subst, replicate, arith}
-use Rattle.std.specs.List.{list_any}
+use Rattle.std.proofs.Common.{◌≡◌, ℕ, ◌+◌, ◌*◌, ◌<◌, ◌≤◌, ◌==◌, List, [], ◌∷◌, ◌++◌, length, take, get_or, cond, Bool, true, false, ◌||◌, Option, Some, refl, sym, ap, ◌∙◌, subst, replicate}
 use Rattle.std.proofs.lemmas.List.{take_more, take_all}
-use Rattle.std.proofs.lemmas.Bool.{cases_eq, eq-eqb, ne_eqb, eqb-true}
+use Rattle.std.proofs.lemmas.Bool.{eq-eqb, ne_eqb, eqb-true}
 use Rattle.vec_base.specs.declared.shadow.Change.{Change}
 use Rattle.vec_base.specs.declared.shadow.Change.TheVariants.{Fill, Patch}
 use Rattle.vec_base.specs.declared.shadow.ShadowKey.{ShadowKey}
@@ -19,7 +18,7 @@ use Rattle.shadow_records.specs.Keys.{is_key}
 abbrev pub written : (ℕ → List ℕ) → (ℕ → List ℕ) → List ℕ → ℕ → List ℕ
 written older newer places k = cond (is_listed places k) (newer k) (older k)
 
-pub listed-more : (places : List ℕ) (i k : ℕ) → is_listed (places ++ i ∷ []) k ≡ (is_listed places k || (i == k))
+listed-more : (places : List ℕ) (i k : ℕ) → is_listed (places ++ i ∷ []) k ≡ (is_listed places k || (i == k))
 listed-more [] i k = none (i == k) where
   none : (b : Bool) → (b || false) ≡ (false || b)
   none true = refl

@@ -1,9 +1,8 @@
 -- A record that is written whole or taken away, and keys that have none.
-use Rattle.std.proofs.Common.{◌≡◌, ℕ, zero, suc, ◌+◌, ◌≤◌, ◌==◌, ℤ, pos, negsuc, List, [], ◌∷◌, ◌++◌, length, cond, Bool, true, false, ◌||◌, ◌&&◌, Option, Some, None, is_some, Result, OnOk, ⊎_elim, refl, sym, ap, ap₂, ◌∙◌, subst, arith}
+use Rattle.std.proofs.Common.{◌≡◌, ℕ, zero, suc, ◌≤◌, ◌==◌, ℤ, pos, negsuc, List, [], ◌∷◌, ◌++◌, length, Bool, true, false, ◌||◌, Option, Some, None, is_some, Result, OnOk, ⊎_elim, refl, sym, ap, ap₂, ◌∙◌, subst}
 use Rattle.std.specs.Prelude.{IsSome}
-use Rattle.std.specs.Ordering.{int_eq}
 use Rattle.std.specs.declared.result.Result.TheVariants.{Ok, Err}
-use Rattle.std.proofs.lemmas.Bool.{false≢true, and_parts, and_from, and_left, and_right, or_parts, or_cases, or_left, or_right, or_from, eqb-true, eq-eqb, ne_eqb, false_from_ne_true}
+use Rattle.std.proofs.lemmas.Bool.{false≢true, and_parts, and_from, or_parts, or_cases, or_left, or_right, or_from, eqb-true, eq-eqb, false_from_ne_true}
 use Rattle.row_model.specs.CanonicalColumns.{canonical_columns}
 use Rattle.row_model.specs.declared.schema.Schema.{Schema}
 use Rattle.vec_base.specs.declared.shadow.Change.{Change}
@@ -12,11 +11,11 @@ use Rattle.vec_base.specs.declared.shadow.ShadowKey.{ShadowKey}
 use Rattle.shadow_keeper.specs.declared.keeper.TheConstants.{MOST_CHANGE_BYTES}
 use Rattle.shadow_records.specs.Keys.{is_key, key_of}
 use Rattle.shadow_records.specs.PlacedTables.{PlacedTable}
-use Rattle.shadow_records.specs.Records.{at_zero, body_at, body_of, info_body}
+use Rattle.shadow_records.specs.Records.{at_zero, body_at, body_of}
 use Rattle.shadow_records.specs.StandsFor.{record_in}
 use Rattle.shadow_records.proofs.KeyLaws.{is_key-same, key_is}
 use Rattle.table_changes.specs.inner.KeySets.{is_chunk_kind, is_info_kind, is_of, is_row_kind}
-use Rattle.table_changes.specs.inner.Steps.{Rewrites, RewritesOne, TurnsKeys}
+use Rattle.table_changes.specs.inner.Steps.{TurnsKeys}
 use Rattle.table_changes.proofs.SameLaws.{by_chunk_kind}
 use Rattle.table_changes.proofs.Steps.{one_put, one_remove, rewrites-one, rewrites-same, rewrites-then}
 

@@ -1,18 +1,16 @@
 -- Chunks and rows whose records are the same in two tables, and those that have none.
-use Rattle.std.proofs.Common.{◌≡◌, ℕ, zero, suc, ◌+◌, ◌<◌, ◌≤◌, ◌==◌, ℤ, pos, negsuc, List, [], ◌∷◌, length, get_or, nat_lt, cond, Bool, true, false, ◌||◌, Option, Some, None, is_some, ⊎_elim, refl, sym, ap, ◌∙◌, subst, arith, replicate}
-use Rattle.std.specs.List.{find, flat_map, AllPairs}
+use Rattle.std.proofs.Common.{◌≡◌, ℕ, zero, suc, ◌+◌, ◌<◌, ◌≤◌, ◌==◌, ℤ, pos, negsuc, List, [], ◌∷◌, get_or, nat_lt, cond, Bool, true, false, ◌||◌, Option, Some, None, is_some, ⊎_elim, refl, sym, ap, ◌∙◌, subst, arith}
+use Rattle.std.specs.List.{flat_map, AllPairs}
 use Rattle.std.specs.Option.{option_map}
-use Rattle.std.proofs.lemmas.Bool.{false≢true, and_parts, and_from, and_left, cases_Bool, cases_order, or_cases, eqb-true, eq-eqb, ltb-false, le-leb, false_from_ne_true}
+use Rattle.std.proofs.lemmas.Bool.{false≢true, and_parts, and_from, and_left, cases_order, or_cases, eqb-true, eq-eqb, ltb-false}
 use Rattle.row_model.specs.Schemas.{count_of, is_auxiliary, is_metadata, is_vector}
 use Rattle.row_model.specs.declared.schema.Column.{Column}
 use Rattle.row_model.specs.declared.schema.Kind.{Kind}
 use Rattle.row_model.specs.declared.schema.Schema.{Schema}
 use Rattle.vec_base.specs.declared.value.Value.{Value}
-use Rattle.vec_base.specs.declared.shadow.ShadowKey.{ShadowKey}
 use Rattle.shadow_records.specs.Cells.{bitmap, laid, long_text, partition_value_bytes, side_body}
 use Rattle.shadow_records.specs.PlacedTables.{PlacedRow, PlacedTable, AreAlike, IsPlaced, first_in, is_at, is_place, partition_of, row_at, row_of}
-use Rattle.shadow_records.specs.Records.{ColumnAt, at_zero, body_at, body_of, cells_body, chunk_body, column_at, is_bits_column, is_used, nth_column, of_chunk, of_first, place_body, rowid_cell, slot_bit, slot_cell, value_body}
-use Rattle.shadow_records.specs.StandsFor.{record_in}
+use Rattle.shadow_records.specs.Records.{ColumnAt, at_zero, body_at, cells_body, chunk_body, column_at, is_bits_column, is_used, nth_column, of_chunk, of_first, place_body, rowid_cell, slot_bit, slot_cell, value_body}
 use Rattle.record_bodies.proofs.ColumnLaws.{count_first}
 use Rattle.record_bodies.proofs.FindLaws.{Stands, found_all, found_passes, found_stands, some_is}
 use Rattle.table_changes.specs.inner.Groups.{group_count}

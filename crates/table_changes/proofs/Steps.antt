@@ -7,11 +7,11 @@ use Rattle.vec_base.specs.declared.shadow.Change.TheVariants.{Put, Fill, Remove,
 use Rattle.vec_base.specs.declared.shadow.ShadowKey.{ShadowKey}
 use Rattle.shadow_keeper.specs.Keeping.{AreShort, IsShort}
 use Rattle.shadow_keeper.specs.declared.keeper.TheConstants.{MOST_CHANGE_BYTES}
-use Rattle.shadow_records.specs.Batches.{patched, LiesIn}
+use Rattle.shadow_records.specs.Batches.{patched}
 use Rattle.shadow_records.specs.Keys.{is_key}
-use Rattle.shadow_records.specs.inner.OneKey.{applied_at, AllApplyAt, AppliesAt, changed_at, patched_body}
+use Rattle.shadow_records.specs.inner.OneKey.{applied_at, AppliesAt, changed_at, patched_body}
 use Rattle.shadow_records.proofs.BatchLaws.{applied_at-append, all_apply_at-append}
-use Rattle.shadow_records.proofs.KeyLaws.{key_is, is_key-same, is_key-other}
+use Rattle.shadow_records.proofs.KeyLaws.{key_is, is_key-same}
 use Rattle.table_changes.specs.inner.Steps.{Gives, Rewrites, RewritesOne}
 
 -- ---- steps behind each other

@@ -1,18 +1,16 @@
 -- From all keys of a table to its records.
-use Rattle.std.proofs.Common.{◌≡◌, ℕ, List, [], ◌==◌, Bool, true, false, Option, refl, sym, ap, ◌∙◌, subst}
+use Rattle.std.proofs.Common.{◌≡◌, ℕ, List, [], ◌==◌, Bool, true, false, Option, refl, ◌∙◌}
 use Rattle.std.specs.FinMap.{get}
-use Rattle.std.proofs.lemmas.Bool.{false≢true, eqb-true, eq-eqb, ne_eqb}
+use Rattle.std.proofs.lemmas.Bool.{eqb-true, eq-eqb, ne_eqb}
 use Rattle.vec_base.specs.declared.shadow.Change.{Change}
 use Rattle.vec_base.specs.declared.shadow.ShadowKey.{ShadowKey}
 use Rattle.shadow_keeper.specs.Keeping.{AreShort}
-use Rattle.shadow_records.specs.Batches.{applied, AllApply}
-use Rattle.shadow_records.specs.Keys.{Tables}
 use Rattle.shadow_records.specs.PlacedTables.{PlacedTable}
 use Rattle.shadow_records.specs.StandsFor.{record_in}
-use Rattle.shadow_records.specs.inner.OneKey.{applied_at, AllApplyAt}
+use Rattle.shadow_records.specs.inner.OneKey.{AllApplyAt}
 use Rattle.shadow_records.proofs.BatchLaws.{get-applied, all_apply}
-use Rattle.table_changes.specs.Turning.{AreRecords, Turned, Turns}
-use Rattle.table_changes.specs.inner.Steps.{Gives, Rewrites, TurnsKeys}
+use Rattle.table_changes.specs.Turning.{Turns}
+use Rattle.table_changes.specs.inner.Steps.{Gives, TurnsKeys}
 
 -- the changes turn the records of a number where they turn all its keys
 pub turns-all : (number : ℕ) (older newer : Option PlacedTable) (changes : List Change) → TurnsKeys (λ key. key.table == number) older newer [] changes → Turns number older newer changes

@@ -1,19 +1,18 @@
 -- Records of units in two tables: what differs of them is written, or they are filled or taken away.
-use Rattle.std.proofs.Common.{◌≡◌, ℕ, zero, suc, ◌+◌, ◌*◌, ◌/◌, ◌^◌, ◌<◌, ◌≤◌, ◌==◌, ℤ, pos, negsuc, List, [], ◌∷◌, ◌++◌, length, take, get_or, replicate, nat_lt, cond, Bool, true, false, ◌||◌, Option, Some, None, is_some, refl, sym, ap, ◌∙◌, subst, arith}
-use Rattle.std.specs.Prelude.{IfSome}
+use Rattle.std.proofs.Common.{◌≡◌, ℕ, zero, suc, ◌+◌, ◌*◌, ◌/◌, ◌^◌, ◌<◌, ◌≤◌, ℤ, pos, List, [], ◌∷◌, ◌++◌, length, take, get_or, replicate, nat_lt, cond, Bool, true, false, Option, Some, None, is_some, refl, sym, ap, ◌∙◌, subst, arith}
 use Rattle.std.specs.Option.{option_map}
-use Rattle.std.proofs.lemmas.Bool.{false≢true, or_cases}
+use Rattle.std.proofs.lemmas.Bool.{false≢true, and_parts, ltb-true}
 use Rattle.vec_base.specs.Forms.{is_listed}
 use Rattle.vec_base.specs.declared.shadow.Change.{Change}
 use Rattle.vec_base.specs.declared.shadow.Change.TheVariants.{Fill, Patch, Remove}
 use Rattle.vec_base.specs.declared.shadow.ShadowKey.{ShadowKey}
-use Rattle.row_model.specs.Schemas.{has_role, is_metadata, is_vector}
+use Rattle.row_model.specs.Schemas.{is_metadata, is_vector}
 use Rattle.row_model.specs.declared.schema.Column.{Column}
 use Rattle.row_model.specs.declared.schema.Kind.{Kind}
 use Rattle.row_model.specs.declared.schema.Kind.TheVariants.{IntKey, TextKey, Int8Vector, BitVector, IntPartition, TextPartition, IntMeta, TextMeta, BoolMeta, IntAux, TextAux, BlobAux}
 use Rattle.row_model.specs.declared.schema.Schema.{Schema}
 use Rattle.shadow_keeper.specs.declared.keeper.TheConstants.{MOST_CHANGE_BYTES}
-use Rattle.shadow_records.specs.Cells.{cell_width, laid, of_bits}
+use Rattle.shadow_records.specs.Cells.{laid, of_bits}
 use Rattle.shadow_records.specs.Keys.{is_key, key_of}
 use Rattle.shadow_records.specs.PlacedTables.{PlacedRow, PlacedTable, IsPlaced, first_in, row_at}
 use Rattle.shadow_records.specs.Records.{ColumnAt, body_of, column_at, is_bits_column, is_used, nth_column, rowid_cell, slot_bit, slot_cell}
@@ -29,7 +28,6 @@ use Rattle.table_changes.specs.inner.Touching.{HoldsUnits, IsRecordOf, IsTouched
 use Rattle.table_changes.proofs.PatchLaws.{filled, patch_all, patch_more, written}
 use Rattle.table_changes.proofs.SameLaws.{none_in}
 use Rattle.table_changes.proofs.Steps.{one_remove, rewrites-one, rewrites-twice}
-use Rattle.table_changes.proofs.TouchedLaws.{below-at}
 
 -- ---- which record a key is of
 
@@ -135,6 +133,11 @@ module _ (older newer : PlacedTable) (touched : Touched) (same : IsTouched older
 
 -- ---- patches
 
+below-at : (count : ℕ) (places : List ℕ) (i d : ℕ) → are_below count places ≡ true → i < length places → get_or places i d < count
+below-at count [] i d all within = absurd (omega arith)
+below-at count (p ∷ places) zero d all within = ltb-true p count (and_parts (nat_lt p count) (are_below count places) all).0
+below-at count (p ∷ places) (suc i) d all within = below-at count places i d (and_parts (nat_lt p count) (are_below count places) all).1 (omega arith)
+
 with_schema : (older newer : Schema) (of : UnitRecord) → older ≡ newer → IsUnitRecord newer.columns of → IsUnitRecord older.columns of
 with_schema older newer of same is = let P : Schema → Type 0 = λ s. IsUnitRecord s.columns of in subst P (sym same) is
 
@@ -193,6 +196,13 @@ module _ (table : PlacedTable) (of : UnitRecord) (key : ShadowKey) (chunk : ℕ)
 
   pub body_missing : is_some (first_in table.rows chunk) ≡ false → body_of table key ≡ None
   body_missing e = own_body ∙ ap (option_map (λ first. units)) (missing (first_in table.rows chunk) e)
+
+  mapped : (o : Option PlacedRow) → is_some (option_map (λ first. units) o) ≡ is_some o
+  mapped None = refl
+  mapped (Some first) = refl
+
+  pub some_body : is_some (body_of table key) ≡ is_some (first_in table.rows chunk)
+  some_body = ap is_some own_body ∙ mapped (first_in table.rows chunk)
 
   zero_unit : (u : UnitRecord) (k : ℕ) → ((s : ℕ) → row_at table.rows chunk s ≡ None) → unit u table chunk k ≡ replicate (unit_width u) 0
   zero_unit Used k none = ap (λ (f : ℕ → Option PlacedRow). of_bits (λ bit. is_used (f (8 * k + bit))) 8 ∷ []) (λ i s. none s i)

@@ -1,5 +1,5 @@
 -- What of a chunk was touched, and that the rest of it is the same.
-use Rattle.std.specs.Prelude.{◌≡◌, ℕ, ◌<◌, ◌/◌, Bool, true, false, nat_lt, List, Option, Some, None, pos, ⊤}
+use Rattle.std.specs.Prelude.{◌≡◌, ℕ, ◌<◌, ◌/◌, Bool, true, false, nat_lt, List, pos, ⊤}
 use Rattle.std.specs.List.{list_all}
 use Rattle.vec_base.specs.Forms.{is_listed}
 use Rattle.shadow_records.specs.PlacedTables.{PlacedRow, PlacedTable, row_at}

@@ -1,4 +1,3 @@
-use Rattle.std.proofs.Common.{◌≡◌}
 use Rattle.table_changes.specs.inner.Turns.{newer_in, older_in}
 use Rattle.table_changes.proofs.RecordLaws.{all_kinds, on_ok}
 use Rattle.table_changes.proofs.changes.all.Goals as goal

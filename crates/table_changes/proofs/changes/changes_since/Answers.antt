@@ -1,4 +1,4 @@
-use Rattle.std.proofs.Common.{◌≡◌, ◌==◌, ◌∙◌, [], List, None, Some, subst}
+use Rattle.std.proofs.Common.{◌==◌, [], None, Some}
 use Rattle.std.specs.Option.{option_copied, option_map}
 use Rattle.vec_base.specs.declared.shadow.ShadowKey.{ShadowKey}
 use Rattle.shadow_records.specs.StandsFor.{record_in}

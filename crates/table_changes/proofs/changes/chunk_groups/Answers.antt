@@ -1,4 +1,4 @@
-use Rattle.std.proofs.Common.{◌≡◌, ◌∙◌, rules, w64, SFits}
+use Rattle.std.proofs.Common.{◌∙◌, rules, w64, SFits}
 use Rattle.std.proofs.lemmas.Int.{to_z-of_z}
 use Rattle.table_changes.specs.inner.Turns.{newer_in, older_in}
 use Rattle.table_changes.proofs.GroupLaws.{chunk_whole}

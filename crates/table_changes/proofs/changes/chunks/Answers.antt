@@ -1,4 +1,4 @@
-use Rattle.std.proofs.Common.{◌≡◌, rules}
+use Rattle.std.proofs.Common.{rules}
 use Rattle.table_changes.specs.inner.KeySets.{is_chunk_kind}
 use Rattle.table_changes.specs.inner.Turns.{newer_in, older_in}
 use Rattle.table_changes.proofs.GroupLaws.{negative_same, zero_same}

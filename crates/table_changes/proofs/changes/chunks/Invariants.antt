@@ -1,4 +1,4 @@
-use Rattle.std.proofs.Common.{◌≡◌, ◌<◌, ◌-◌}
+use Rattle.std.proofs.Common.{◌<◌, ◌-◌}
 use Rattle.table_changes.specs.inner.KeySets.{is_chunk_kind, is_up_to, is_within}
 use Rattle.table_changes.specs.inner.Steps.{TurnsKeys}
 use Rattle.table_changes.specs.inner.Turns.{newer_in, older_in}

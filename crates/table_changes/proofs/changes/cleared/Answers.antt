@@ -1,4 +1,4 @@
-use Rattle.std.proofs.Common.{◌≡◌, ◌==◌, [], List, Option, None, Some, ap, sym, subst, Bor}
+use Rattle.std.proofs.Common.{◌==◌, [], List, Option, None, Some, ap, sym, subst, Bor}
 use Rattle.std.specs.Option.{option_copied, option_map}
 use Rattle.vec_base.specs.declared.shadow.Change.{Change}
 use Rattle.vec_base.specs.declared.shadow.ShadowKey.{ShadowKey}

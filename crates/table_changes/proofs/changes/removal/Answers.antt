@@ -1,4 +1,4 @@
-use Rattle.std.proofs.Common.{◌≡◌, ◌==◌, List, None, Some, subst}
+use Rattle.std.proofs.Common.{◌==◌, List, None, Some, subst}
 use Rattle.vec_base.specs.declared.shadow.Change.{Change}
 use Rattle.vec_base.specs.declared.shadow.ShadowKey.{ShadowKey}
 use Rattle.table_changes.specs.inner.Steps.{TurnsKeys}

@@ -1,4 +1,3 @@
-use Rattle.std.proofs.Common.{◌≡◌}
 use Rattle.table_changes.specs.inner.Turns.{newer_in, older_in}
 use Rattle.table_changes.proofs.GroupLaws.{row_whole}
 use Rattle.table_changes.proofs.RecordLaws.{on_ok}

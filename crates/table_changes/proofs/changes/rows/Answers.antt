@@ -1,4 +1,4 @@
-use Rattle.std.proofs.Common.{◌≡◌, ◌∙◌, ℤ, Some, rules, sym, ap, subst, w64, SFits}
+use Rattle.std.proofs.Common.{ℤ, Some, rules, sym, subst, w64, SFits}
 use Rattle.std.proofs.lemmas.Int.{to_z-of_z}
 use Rattle.std.specs.Ordering.{int_eq}
 use Rattle.table_changes.specs.inner.KeySets.{is_not_behind, is_row_kind, is_within}

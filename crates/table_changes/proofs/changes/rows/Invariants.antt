@@ -1,4 +1,3 @@
-use Rattle.std.proofs.Common.{◌≡◌}
 use Rattle.table_changes.specs.inner.KeySets.{is_not_behind, is_row_kind, is_within}
 use Rattle.table_changes.specs.inner.Steps.{TurnsKeys}
 use Rattle.table_changes.specs.inner.Turns.{newer_in, older_in}

@@ -1,4 +1,4 @@
-use Rattle.std.proofs.Common.{◌≡◌, ◌∙◌, List, ap, arith, pos, subst}
+use Rattle.std.proofs.Common.{◌≡◌, ◌∙◌, List, ap, arith, subst}
 use Rattle.row_model.specs.declared.schema.Column.{Column}
 use Rattle.row_model.specs.declared.schema.Schema.{Schema}
 use Rattle.vec_base.specs.declared.shadow.ShadowKey.{ShadowKey}

@@ -1,4 +1,4 @@
-use Rattle.std.proofs.Common.{◌≡◌, ◌∙◌, ◌*◌, sym, ap}
+use Rattle.std.proofs.Common.{◌∙◌, ◌*◌, sym, ap}
 use Rattle.row_model.specs.declared.schema.Schema.{Schema}
 use Rattle.table_bodies.specs.Units.{unit_count, unit_width}
 use Rattle.table_changes.proofs.RecordLaws.{on_ok}

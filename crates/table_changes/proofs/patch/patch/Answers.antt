@@ -1,4 +1,4 @@
-use Rattle.std.proofs.Common.{◌≡◌, ◌∙◌, List, ℕ, sym, subst}
+use Rattle.std.proofs.Common.{◌∙◌, List, ℕ, sym, subst}
 use Rattle.table_changes.specs.inner.Touching.{HoldsUnits}
 use Rattle.table_changes.proofs.RecordLaws.{on_ok}
 use Rattle.table_changes.proofs.UnitLaws.{gone_record, holds_units, patched_record}

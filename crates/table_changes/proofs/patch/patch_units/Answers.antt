@@ -1,4 +1,4 @@
-use Rattle.std.proofs.Common.{◌≡◌, ◌<◌, ◌∙◌, sym, get_or}
+use Rattle.std.proofs.Common.{get_or}
 use Rattle.table_changes.proofs.UnitLaws.{item_at, unit_more, units_end}
 use Rattle.table_changes.proofs.patch.patch_units.Goals as goal
 

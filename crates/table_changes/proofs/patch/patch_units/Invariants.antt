@@ -1,4 +1,4 @@
-use Rattle.std.proofs.Common.{◌≡◌, Some, take}
+use Rattle.std.proofs.Common.{Some, take}
 use Rattle.shadow_records.specs.Cells.{laid}
 use Rattle.table_bodies.specs.Units.{unit, unit_count}
 use Rattle.table_changes.specs.inner.Steps.{RewritesOne}

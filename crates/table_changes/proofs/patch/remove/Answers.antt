@@ -1,4 +1,4 @@
-use Rattle.std.proofs.Common.{◌≡◌, ◌∙◌, sym}
+use Rattle.std.proofs.Common.{◌∙◌, sym}
 use Rattle.table_changes.proofs.UnitLaws.{remove_none, remove_there}
 use Rattle.table_changes.proofs.patch.remove.Goals as goal
 

@@ -1,4 +1,4 @@
-use Rattle.std.proofs.Common.{◌≡◌, ◌∙◌, rules, sym, ap, subst, w64, SFits}
+use Rattle.std.proofs.Common.{◌∙◌, rules, sym, ap, subst, w64, SFits}
 use Rattle.std.proofs.lemmas.Int.{to_z-of_z}
 use Rattle.row_model.specs.Schemas.{is_vector}
 use Rattle.shadow_records.specs.Records.{column_at}

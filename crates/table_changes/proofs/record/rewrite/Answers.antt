@@ -1,4 +1,4 @@
-use Rattle.std.proofs.Common.{◌≡◌, rules, sym, ◌∙◌}
+use Rattle.std.proofs.Common.{sym, ◌∙◌}
 use Rattle.table_changes.specs.inner.Turns.{newer_in, older_in}
 use Rattle.table_changes.proofs.RecordLaws.{no_record, on_ok, put_newer, remove_older}
 use Rattle.table_changes.proofs.record.rewrite.Goals as goal

@@ -1,4 +1,3 @@
-use Rattle.std.proofs.Common.{◌≡◌, rules}
 use Rattle.table_changes.proofs.NextLaws.{chunk_gone, chunk_made, chunk_over}
 use Rattle.table_changes.proofs.turn.Turn.next_chunk.Goals as goal
 

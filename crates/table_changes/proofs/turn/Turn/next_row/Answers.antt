@@ -1,4 +1,3 @@
-use Rattle.std.proofs.Common.{◌≡◌, rules}
 use Rattle.table_changes.proofs.NextLaws.{next_gone, next_made, next_over}
 use Rattle.table_changes.proofs.turn.Turn.next_row.Goals as goal
 
