@@ -10,10 +10,11 @@ use nearest_query::nearest;
 use row_model::{Constraint, Items, Order, Select, Test};
 use std::alloc::Global;
 use std::marker::Sync;
+use std::sync::atomic::{AtomicU32, Ordering};
 use std::test::Fail;
 use std::thread::Threads;
 use table_version::TableVersion;
-use topk_merge::{Hit, NoGate};
+use topk_merge::{Gate, Hit, NoGate};
 use vec_base::{Bytes, List, MOST_TERMS, Op, Steps, Txt, Value};
 
 /// A MATCH of the vector of zeros, so many rows that are wanted, and more terms.
@@ -64,6 +65,39 @@ fn plan_of(
     }
 }
 
+/// A gate that counts the pieces.
+#[derive(Drop)]
+struct Counting {
+    pieces: AtomicU32,
+}
+
+impl Gate for Counting {
+    fn enter(&self, _piece: u32) {
+        self.pieces.fetch_add(1, Ordering::SeqCst);
+    }
+}
+
+/// What a search finds, and what it counts. Each piece is told to the gate.
+fn found_with<G: Gate, R: Threads + Sync>(
+    rt: &R,
+    alloc: Global,
+    version: &TableVersion,
+    k: i64,
+    tests: &[(&str, Op, i64)],
+    workers: u8,
+    gate: &G,
+) -> Result<(List<Hit>, Steps), Fail>
+    requires columns { version.now.table.schema.columns ≡ three_columns }
+{
+    let plan = plan_of(alloc, version, terms(alloc, k, tests)?)?;
+    let mut steps = Steps::new();
+    if plan.target().is_none() {
+        return Err(Fail::from("no target"));
+    }
+    let hits = nearest(rt, alloc, version, &plan, workers.max(1), gate, &mut steps)?;
+    Ok((hits, steps))
+}
+
 /// What a search finds, and what it counts.
 fn found<R: Threads + Sync>(
     rt: &R,
@@ -75,21 +109,22 @@ fn found<R: Threads + Sync>(
 ) -> Result<(List<Hit>, Steps), Fail>
     requires columns { version.now.table.schema.columns ≡ three_columns }
 {
-    let plan = plan_of(alloc, version, terms(alloc, k, tests)?)?;
-    let mut steps = Steps::new();
-    if plan.target().is_none() {
-        return Err(Fail::from("no target"));
-    }
-    let hits = nearest(
-        rt,
-        alloc,
-        version,
-        &plan,
-        workers.max(1),
-        &NoGate,
-        &mut steps,
-    )?;
-    Ok((hits, steps))
+    found_with(rt, alloc, version, k, tests, workers, &NoGate)
+}
+
+/// How many pieces a search by 64 workers tells to its gate.
+fn pieces_told<R: Threads + Sync>(
+    rt: &R,
+    alloc: Global,
+    k: i64,
+    tests: &[(&str, Op, i64)],
+) -> Result<u32, Fail> {
+    let version = twelve_rows(alloc)?;
+    let gate = Counting {
+        pieces: AtomicU32::new(0),
+    };
+    found_with(rt, alloc, &version, k, tests, 64, &gate)?;
+    Ok(gate.pieces.load(Ordering::SeqCst))
 }
 
 fn hit(rowid: i64, distance: u32) -> Hit {
@@ -163,6 +198,14 @@ fn one_partition_is_read(rt: HostRuntime) -> Result<(), Fail> {
         assert_eq!(rt; hits.as_slice(), [hit(10, 100), hit(11, 121)].as_slice());
         assert_eq!(rt; (steps.reads, steps.pieces), (3, 1));
     }
+    Ok(())
+}
+
+#[test]
+fn each_chunk_that_is_searched_is_told_to_the_gate(rt: HostRuntime) -> Result<(), Fail> {
+    let alloc = rt.alloc();
+    assert_eq!(rt; pieces_told(&rt, alloc, 4, &[])?, 3);
+    assert_eq!(rt; pieces_told(&rt, alloc, 2, &[("p", Op::Eq, 2)])?, 1);
     Ok(())
 }
 
