@@ -6,7 +6,6 @@ pub mod PartitionLaws
 pub mod SchemaLaws
 pub mod DecodingLaws
 pub mod OneTableLaws
-pub mod PairLaws
 pub mod SearchLaws
 pub mod TurnLaws
 pub mod FormLaws
