@@ -68,10 +68,10 @@ pub(crate) fn unit_record(table: &TableVersion, key: &ShadowKey) -> Option<UnitR
 }
 
 /// The places of the units of the record that were touched.
-fn touched_units<'a>(record: &UnitRecord, touched: &'a Touched) -> &'a [u16]
-    ensures { result.now ≡ units_in record.now touched.now }
+fn touched_units<'a>(kept: &UnitRecord, touched: &'a Touched) -> &'a [u16]
+    ensures { result.now ≡ units_in kept.now touched.now }
 {
-    match record {
+    match kept {
         UnitRecord::Used => touched.bytes.as_slice(),
         UnitRecord::Rowids => touched.slots.as_slice(),
         UnitRecord::Truths(_) => touched.bytes.as_slice(),
@@ -84,17 +84,17 @@ fn patch_unit(
     alloc: Global,
     changes: &mut List<Change>,
     newer: &TableVersion,
-    record: &UnitRecord,
+    kept: &UnitRecord,
     key: &ShadowKey,
     chunk: u32,
     at: u16,
 ) -> Result<(), Memory>
-    requires there { IsUnitRecord newer.now.table.schema.columns record.now }
-    requires within { at < unit_count record.now newer.now.table.schema.chunk_size }
-    ensures { OnOk result (changes.new ≡ changes.old ++ Patch key.now (at * unit_width record.now) (unit record.now newer.now.table chunk at) ∷ []) }
+    requires there { IsUnitRecord newer.now.table.schema.columns kept.now }
+    requires within { at < unit_count kept.now newer.now.table.schema.chunk_size }
+    ensures { OnOk result (changes.new ≡ changes.old ++ Patch key.now (at * unit_width kept.now) (unit kept.now newer.now.table chunk at) ∷ []) }
 {
-    let bytes = record.unit(alloc, newer, chunk, at)?;
-    let offset = u32::from(at) * u32::from(record.width());
+    let bytes = kept.unit(alloc, newer, chunk, at)?;
+    let offset = u32::from(at) * u32::from(kept.width());
     changes.push(Change::Patch(*key, offset, bytes))
 }
 
@@ -104,50 +104,50 @@ fn patch_units(
     changes: &mut List<Change>,
     older: &TableVersion,
     newer: &TableVersion,
-    record: &UnitRecord,
+    kept: &UnitRecord,
     key: &ShadowKey,
     chunk: u32,
     units: &[u16],
 ) -> Result<(), Memory>
     requires schema { older.now.table.schema ≡ newer.now.table.schema }
-    requires there { IsUnitRecord newer.now.table.schema.columns record.now }
-    requires units { HoldsUnits older.now.table newer.now.table chunk record.now units.now }
+    requires there { IsUnitRecord newer.now.table.schema.columns kept.now }
+    requires units { HoldsUnits older.now.table newer.now.table chunk kept.now units.now }
     ensures { OnOk result (RewritesOne key.now
-        (Some (laid (unit record.now older.now.table chunk) (unit_count record.now newer.now.table.schema.chunk_size)))
-        (Some (laid (unit record.now newer.now.table chunk) (unit_count record.now newer.now.table.schema.chunk_size))) changes.old changes.new) }
+        (Some (laid (unit kept.now older.now.table chunk) (unit_count kept.now newer.now.table.schema.chunk_size)))
+        (Some (laid (unit kept.now newer.now.table chunk) (unit_count kept.now newer.now.table.schema.chunk_size))) changes.old changes.new) }
 {
     older.known();
     newer.known();
     for at in units {
-        patch_unit(alloc, changes, newer, record, key, chunk, *at)?;
+        patch_unit(alloc, changes, newer, kept, key, chunk, *at)?;
     }
     Ok(())
 }
 
 /// How many bytes the record has, where a chunk has so many slots.
-fn record_bytes(record: &UnitRecord, size: u16) -> u32
-    ensures { result ≡ unit_count record.now size * unit_width record.now }
+fn record_bytes(kept: &UnitRecord, size: u16) -> u32
+    ensures { result ≡ unit_count kept.now size * unit_width kept.now }
 {
-    u32::from(record.count(size)) * u32::from(record.width())
+    u32::from(kept.count(size)) * u32::from(kept.width())
 }
 
 /// Gives the record zeros, where the older table has no such chunk.
 fn fill(
     changes: &mut List<Change>,
     older: &TableVersion,
-    record: &UnitRecord,
+    kept: &UnitRecord,
     key: &ShadowKey,
     chunk: u32,
 ) -> Result<(), Memory>
-    requires of { IsRecordOf older.now.table.schema.columns key.now record.now }
+    requires of { IsRecordOf older.now.table.schema.columns key.now kept.now }
     requires chunk { key.now.a ≡ pos chunk }
     ensures { OnOk result (RewritesOne key.now (body_of older.now.table key.now)
-        (Some (laid (unit record.now older.now.table chunk) (unit_count record.now older.now.table.schema.chunk_size))) changes.old changes.new) }
+        (Some (laid (unit kept.now older.now.table chunk) (unit_count kept.now older.now.table.schema.chunk_size))) changes.old changes.new) }
 {
     if older.slots(chunk).is_some() {
         return Ok(());
     }
-    let bytes = record_bytes(record, older.schema().chunk_size);
+    let bytes = record_bytes(kept, older.schema().chunk_size);
     changes.push(Change::Fill(*key, bytes))
 }
 
@@ -155,15 +155,15 @@ fn fill(
 fn remove(
     changes: &mut List<Change>,
     older: &TableVersion,
-    record: &UnitRecord,
+    kept: &UnitRecord,
     key: &ShadowKey,
     chunk: u32,
 ) -> Result<(), Memory>
-    requires of { IsRecordOf older.now.table.schema.columns key.now record.now }
+    requires of { IsRecordOf older.now.table.schema.columns key.now kept.now }
     requires chunk { key.now.a ≡ pos chunk }
     ensures { OnOk result (RewritesOne key.now (body_of older.now.table key.now) None changes.old changes.new) }
 {
-    let _record = *record;
+    let _kept = *kept;
     if older.slots(chunk).is_some() {
         changes.push(Change::Remove(*key))?;
     }
@@ -177,11 +177,11 @@ pub(crate) fn patch(
     older: &TableVersion,
     newer: &TableVersion,
     touched: &Touched,
-    record: &UnitRecord,
+    kept: &UnitRecord,
     key: &ShadowKey,
 ) -> Result<(), Memory>
     requires follows { Follows older.now.table newer.now }
-    requires of { IsRecordOf newer.now.table.schema.columns key.now record.now }
+    requires of { IsRecordOf newer.now.table.schema.columns key.now kept.now }
     requires chunk { key.now.a ≡ pos touched.now.chunk }
     requires touched { IsTouched older.now.table.rows newer.now.table.rows newer.now.table.schema.chunk_size touched.now }
     ensures { OnOk result (TurnsKeys (λ k. is_key k key.now) (Some older.now.table) (Some newer.now.table) changes.old changes.new) }
@@ -189,9 +189,9 @@ pub(crate) fn patch(
     let chunk = touched.chunk;
     newer.known();
     if !newer.slots(chunk).is_some() {
-        return remove(changes, older, record, key, chunk);
+        return remove(changes, older, kept, key, chunk);
     }
-    fill(changes, older, record, key, chunk)?;
-    let units = touched_units(record, touched);
-    patch_units(alloc, changes, older, newer, record, key, chunk, units)
+    fill(changes, older, kept, key, chunk)?;
+    let units = touched_units(kept, touched);
+    patch_units(alloc, changes, older, newer, kept, key, chunk, units)
 }

@@ -28,12 +28,12 @@ fn newer_body(alloc: Global, turn: &Turn<'_>, key: &ShadowKey) -> Result<Option<
 }
 
 /// Whether the chunk of the record of units is there.
-fn has_units(table: &TableVersion, record: &UnitRecord, key: &ShadowKey, chunk: u32) -> bool
-    requires of { IsRecordOf table.now.table.schema.columns key.now record.now }
+fn has_units(table: &TableVersion, kept: &UnitRecord, key: &ShadowKey, chunk: u32) -> bool
+    requires of { IsRecordOf table.now.table.schema.columns key.now kept.now }
     requires chunk { key.now.a ≡ pos chunk }
     ensures { result ≡ is_some (body_of table.now.table key.now) }
 {
-    let (_record, _key) = (*record, *key);
+    let (_kept, _key) = (*kept, *key);
     table.slots(chunk).is_some()
 }
 
@@ -41,9 +41,9 @@ fn has_units(table: &TableVersion, record: &UnitRecord, key: &ShadowKey, chunk: 
 fn has_body(alloc: Global, table: &TableVersion, key: &ShadowKey) -> Result<bool, Memory>
     ensures { IfOk result (λ there. there ≡ is_some (body_of table.now.table key.now)) }
 {
-    if let Some(record) = unit_record(table, key) {
+    if let Some(kept) = unit_record(table, key) {
         if let Ok(chunk) = u32::try_from(key.a) {
-            return Ok(has_units(table, &record, key, chunk));
+            return Ok(has_units(table, &kept, key, chunk));
         }
     }
     Ok(body(alloc, table, key)?.is_some())
