@@ -1,6 +1,6 @@
 -- The columns of the tests make valid schemas, and the name of the tests is one.
-use Rattle.std.proofs.Common.{◌≡◌, ◌≤◌, ℕ, ℤ, pos, List, [], ◌∷◌, true, codes, length, refl, ap, ap₂, arith, ◌∙◌}
-use Rattle.std.specs.Prelude.{◌&&◌}
+use Rattle.std.proofs.Common.{◌≡◌, ◌≤◌, None, ℕ, ℤ, pos, List, [], ◌∷◌, true, codes, length, refl, ap, ap₂, arith, ◌∙◌}
+use Rattle.std.specs.Prelude.{◌&&◌, ◌==◌}
 use Rattle.std.proofs.lemmas.Bool.{le-leb}
 use Rattle.vec_base.specs.declared.limits.TheConstants.{MOST_VALUE_BYTES}
 use Rattle.vec_base.specs.declared.value.Value.{Value}
@@ -11,24 +11,33 @@ use Rattle.vec_base.specs.Words.{is_name, is_reserved}
 use Rattle.row_model.specs.Schemas.{IsValidSchema, schema_fault}
 use Rattle.row_model.specs.declared.schema.Column.{Column}
 use Rattle.row_model.specs.declared.schema.Schema.{Schema}
-use Rattle.query_tests.specs.Columns.{bit_columns, document_columns}
+use Rattle.query_tests.specs.Columns.{bit_columns, document_columns, vector_columns, wide_columns}
 
 abbrev schema_of : List Column → ℕ → Schema
 schema_of columns size = record { columns = columns; chunk_size = size }
 
+valid_from : (columns : List Column) (schema : Schema) → schema_fault (schema_of columns 8) ≡ None → list_all (λ column. is_name column.name) columns ≡ true →
+    schema.columns ≡ columns → schema.chunk_size ≡ 8 → IsValidSchema schema
+valid_from columns schema rules names same size = record {
+  rules = ap (λ cs. schema_fault (schema_of cs schema.chunk_size)) same ∙ ap (λ n. schema_fault (schema_of columns n)) size ∙ rules;
+  names = ap (list_all (λ column. is_name column.name)) same ∙ names;
+}
+
 pub valid_documents : (schema : Schema) → schema.columns ≡ document_columns → schema.chunk_size ≡ 8 → IsValidSchema schema
 unfolding is_reserved
-valid_documents schema columns size = record {
-  rules = ap (λ cs. schema_fault (schema_of cs schema.chunk_size)) columns ∙ ap (λ n. schema_fault (schema_of document_columns n)) size ∙ refl;
-  names = ap (list_all (λ column. is_name column.name)) columns ∙ refl;
-}
+valid_documents schema = valid_from document_columns schema refl refl
 
 pub valid_bits : (schema : Schema) → schema.columns ≡ bit_columns → schema.chunk_size ≡ 8 → IsValidSchema schema
 unfolding is_reserved
-valid_bits schema columns size = record {
-  rules = ap (λ cs. schema_fault (schema_of cs schema.chunk_size)) columns ∙ ap (λ n. schema_fault (schema_of bit_columns n)) size ∙ refl;
-  names = ap (list_all (λ column. is_name column.name)) columns ∙ refl;
-}
+valid_bits schema = valid_from bit_columns schema refl refl
+
+pub valid_wide : (schema : Schema) → schema.columns ≡ wide_columns → schema.chunk_size ≡ 8 → IsValidSchema schema
+unfolding is_reserved
+valid_wide schema = valid_from wide_columns schema refl refl
+
+pub valid_vectors : (schema : Schema) → schema.columns ≡ vector_columns → schema.chunk_size ≡ 8 → IsValidSchema schema
+unfolding is_reserved
+valid_vectors schema = valid_from vector_columns schema refl refl
 
 pub name_v : is_name (codes "v") ≡ true
 unfolding is_reserved
@@ -45,3 +54,7 @@ pub bits_fit : (values : List Value) (byte : ℕ) (text : List ℕ) → values �
 bits_fit values byte text are short =
     let low : length text ≤ MOST_VALUE_BYTES = omega (arith, short) in
     ap (are_fitting bit_columns) are ∙ ap (λ b. b && true) (le-leb (length text) MOST_VALUE_BYTES low)
+
+pub wide_fits : (values : List Value) (x y : List ℕ) → values ≡ Int8 x ∷ Int8 y ∷ [] → length x ≡ 8192 → length y ≡ 8192 → are_fitting wide_columns values ≡ true
+wide_fits values x y are long wide =
+    ap (are_fitting wide_columns) are ∙ ap₂ (λ (n m : ℕ). ((8192 == n) && true) && (((8192 == m) && true) && true)) long wide

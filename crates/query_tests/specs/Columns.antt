@@ -18,3 +18,11 @@ document_columns =
 -- b bit[8], m text
 abbrev pub bit_columns : List Column
 bit_columns = record { name = codes "b"; kind = BitVector 8 } ∷ record { name = codes "m"; kind = TextMeta } ∷ []
+
+-- a int8[8192], b int8[8192] distance_metric=l1
+abbrev pub wide_columns : List Column
+wide_columns = record { name = codes "a"; kind = Int8Vector 8192 L2 } ∷ record { name = codes "b"; kind = Int8Vector 8192 L1 } ∷ []
+
+-- a int8[2]
+abbrev pub vector_columns : List Column
+vector_columns = record { name = codes "a"; kind = Int8Vector 2 L2 } ∷ []

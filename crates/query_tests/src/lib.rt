@@ -6,4 +6,8 @@ mod bits;
 #[cfg(test)]
 mod documents;
 #[cfg(test)]
+mod refusals;
+#[cfg(test)]
 mod search;
+#[cfg(test)]
+mod wide;
