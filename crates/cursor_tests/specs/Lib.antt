@@ -1,0 +1,2 @@
+-- ThreeRows: the rows of the source that the tests scan.
+pub mod ThreeRows
