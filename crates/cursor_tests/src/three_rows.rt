@@ -32,10 +32,8 @@ impl RowSource for ThreeRows {
             20
         } else if rowid == 5 {
             50
-        } else if rowid == 9 {
-            90
         } else {
-            unreachable!()
+            90
         };
         let mut values = List::new(alloc);
         values.push(Value::Int(number))?;

@@ -1,6 +1,6 @@
 -- A scan goes on behind the row that came last.
 use Rattle.std.proofs.Common.{◌≡◌, add-one, ℕ, zero, suc, ◌+◌, ◌-◌, ◌≤◌, ℤ, int_lt, Bool, true, false, cond, List, [], ◌∷◌, length, map, take, drop, refl, sym, ap, ◌∙◌, subst, arith, Some, None, ◌++◌}
-use Rattle.std.specs.Prelude.{filter, find, ◌==◌, is_some, IsSome, not}
+use Rattle.std.specs.Prelude.{filter, find, ◌==◌, is_some, not}
 use Rattle.std.specs.List.{list_all}
 use Rattle.std.specs.Option.{option_map}
 use Rattle.std.specs.Ordering.{int_eq}
@@ -160,13 +160,10 @@ spent place rows e = ap (λ n. take n (map (λ (r : Row). r.values) (rows_behind
 pub ended : (place : ScanPlace) (rows : List Row) → scan_left place rows ≡ [] → scan_left (record { after = place.after; left = 0 }) rows ≡ drop 1 (scan_left place rows)
 ended place rows e = sym (ap (λ l. drop 1 l) e)
 
--- the values of the row that comes next are there, and are the first of those that are left
-pub there : (place : ScanPlace) (rowid : ℤ) (rows : List Row) → (place.left ≡ 0 → ⊥) → is_rising rows ≡ true → Some rowid ≡ option_map (λ (r : Row). r.rowid) (next_row place.after rows) → IsSome (values_of rowid rows)
-there place rowid rows some rising e = ap is_some (comes place rowid rows some rising e).values
-
-pub given : (place : ScanPlace) (rowid : ℤ) (rows : List Row) (values : List Value) → (place.left ≡ 0 → ⊥) → is_rising rows ≡ true → Some rowid ≡ option_map (λ (r : Row). r.rowid) (next_row place.after rows) → values_of rowid rows ≡ Some values →
-    Some values ≡ first_of (scan_left place rows)
-given place rowid rows values some rising e own = (let c = comes place rowid rows some rising e in sym own ∙ c.values ∙ sym c.first)
+-- the values of the row that comes next are the first of those that are left
+pub given : (place : ScanPlace) (rowid : ℤ) (rows : List Row) (values : List Value) → (place.left ≡ 0 → ⊥) → is_rising rows ≡ true → Some rowid ≡ option_map (λ (r : Row). r.rowid) (next_row place.after rows) →
+    ((own : List Value) → values_of rowid rows ≡ Some own → values ≡ own) → Some values ≡ first_of (scan_left place rows)
+given place rowid rows values some rising e is = (let c = comes place rowid rows some rising e in ap Some (is c.row.values c.values) ∙ sym c.first)
 
 -- whether a row comes next
 pub end_is : (place : ScanPlace) (rows : List Row) (next : Option ℤ) (none : Bool) → (place.left ≡ 0 → ⊥) → is_rising rows ≡ true → next ≡ option_map (λ (r : Row). r.rowid) (next_row place.after rows) → is_some next ≡ not none →

@@ -1,6 +1,7 @@
 //! What gives rows by rising rowids.
-ghost use Rattle.std.specs.Prelude.{◌≡◌, true, List as Seq, Some, IfOk, IsSome};
+ghost use Rattle.std.specs.Prelude.{◌≡◌, true, List as Seq, Some, IfOk};
 ghost use Rattle.std.specs.Option.{option_map};
+ghost use Rattle.vec_base.specs.declared.value.Value.{Value as ValueOf};
 ghost use Rattle.row_model.specs.Rows.{is_rising};
 ghost use Rattle.row_model.specs.declared.row.Row.{Row as RowOf};
 ghost use Rattle.snapshot_cursor.specs.Scanned.{next_row, values_of};
@@ -18,10 +19,9 @@ pub trait RowSource {
         ensures next { result ≡ option_map (λ row. row.rowid) (next_row after (rows self.now)) }
         ensures rising { is_rising (rows self.now) ≡ true };
 
-    /// The values of the row of a rowid.
+    /// The values of the row of a rowid, where there is one. Nothing is said of the answer where there is none.
     fn row(&self, alloc: Global, rowid: i64) -> Result<List<Value>, Memory>
-        requires there { IsSome (values_of rowid (rows self.now)) }
-        ensures values { IfOk result (λ values. values_of rowid (rows self.now) ≡ Some values) };
+        ensures values { IfOk result (λ values. (own : Seq ValueOf) → values_of rowid (rows self.now) ≡ Some own → values ≡ own) };
 }
 
 /// A source without rows. It serves cursors whose rows are kept.
@@ -37,7 +37,7 @@ impl RowSource for NoRows {
         None
     }
 
-    fn row(&self, _: Global, _: i64) -> Result<List<Value>, Memory> {
-        unreachable!()
+    fn row(&self, alloc: Global, _: i64) -> Result<List<Value>, Memory> {
+        Ok(List::new(alloc))
     }
 }

@@ -2,15 +2,9 @@ use Rattle.std.proofs.Common.{rules, sym, ◌∙◌, ap}
 use mir.Val.{SFits}
 use Rattle.std.specs.Int.{w64}
 use Rattle.std.proofs.lemmas.Int.{to_z-of_z}
-use Rattle.snapshot_cursor.proofs.ScanLaws.{ends, given, there}
+use Rattle.snapshot_cursor.proofs.ScanLaws.{ends, given}
 use Rattle.snapshot_cursor.specs.Left.{first_of}
 use Rattle.snapshot_cursor.proofs.scan.next_values.Goals as goal
-
-pub row-requires : goal.row-requires
-row-requires g c =
-    let fits : SFits w64 c.in-Some.rowid = search rules in
-    let same = to_z-of_z w64 c.in-Some.rowid fits in
-    rw same (record { there = there c.args.place c.in-Some.rowid (g.V.RowSource.rows c.args.view.now) c.if-place-eq0.false c.next_after.ensures.rising (sym c.in-Some.is ∙ c.next_after.ensures.next) })
 
 pub returns-in_ok-row-in-Some : goal.returns-in_ok-row-in-Some
 returns-in_ok-row-in-Some g c =
