@@ -1,0 +1,2 @@
+-- OneTable: catalogs with a table of one column.
+pub mod OneTable
