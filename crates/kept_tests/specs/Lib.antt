@@ -1,0 +1,2 @@
+-- Columns: the columns of the tables that are kept.
+pub mod Columns
