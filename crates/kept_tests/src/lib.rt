@@ -10,4 +10,6 @@ mod keeping;
 #[cfg(test)]
 mod sample;
 #[cfg(test)]
+mod twelve;
+#[cfg(test)]
 mod wrong;
