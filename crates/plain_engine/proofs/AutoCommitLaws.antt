@@ -27,7 +27,7 @@ use Rattle.plain_engine.specs.inner.AutoCommit.{all_idle, idle, written_at_once,
 use Rattle.row_model.specs.Change.{other_tables, table_named}
 use Rattle.row_model.specs.Check.{check_delete, check_insert, check_select, check_update}
 use Rattle.row_model.specs.Machine.{is_idle, is_writing, seen, new_session, seen_in, session_of, writer_beside, unless, refused, where_open}
-use Rattle.row_model.specs.DirectStatements.{is_direct}
+use Rattle.plain_engine.specs.DirectStatements.{is_direct}
 use Rattle.plain_engine.specs.DirectRequests.{is_direct_request}
 use Rattle.row_model.specs.Step.{answer_of, commits_spent, created, deletes, dropped, executed, inserted, inserted_catalog, kept_catalog, selected, StepsInMemory, too_many, updated_catalog, updates, with_tables, writes}
 

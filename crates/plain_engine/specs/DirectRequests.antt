@@ -2,7 +2,7 @@
 use Rattle.std.specs.Prelude.{Bool, true, false}
 use Rattle.row_model.specs.declared.request.Request.{Request}
 use Rattle.row_model.specs.declared.request.Request.TheVariants.{OpenSession, Execute}
-use Rattle.row_model.specs.DirectStatements.{is_direct}
+use Rattle.plain_engine.specs.DirectStatements.{is_direct}
 
 -- a session is to be opened, or a statement to be executed that needs no transaction and no plan
 abbrev pub is_direct_request : Request → Bool

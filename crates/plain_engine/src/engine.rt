@@ -5,7 +5,7 @@ ghost use Rattle.plain_engine.specs.inner.AutoCommit.{all_idle, ExecutesInAutoCo
 ghost use Rattle.row_model.specs.Limits.{over_sessions, over_session_ids};
 ghost use Rattle.row_model.specs.RefusalOrder.{first};
 ghost use Rattle.row_model.specs.Machine.{first_state, new_session, no_tables, session_of};
-ghost use Rattle.row_model.specs.DirectStatements.{is_direct};
+ghost use Rattle.plain_engine.specs.DirectStatements.{is_direct};
 ghost use Rattle.plain_engine.specs.DirectRequests.{is_direct_request};
 ghost use Rattle.plain_engine.specs.inner.OneValidity.{state_prop};
 ghost use Rattle.row_model.specs.Step.{StepsInMemory};

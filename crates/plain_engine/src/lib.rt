@@ -3,6 +3,7 @@
 
 mod answer;
 mod catalog;
+mod direct;
 mod engine;
 mod execute;
 mod grow;
@@ -13,4 +14,5 @@ mod nearest;
 mod totals;
 mod update;
 
+pub use direct::is_direct;
 pub use engine::PlainEngine;

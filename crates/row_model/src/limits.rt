@@ -1,11 +1,11 @@
 //! The limits on tables, rows and runs: their numbers, and the refusal of a count that is over one.
 ghost use Rattle.std.specs.Prelude.{◌≡◌};
-ghost use Rattle.row_model.specs.Limits.{over, over_tables, over_rows, over_value, over_vectors, over_sides, over_sessions, over_session_ids, over_commits};
+ghost use Rattle.row_model.specs.Limits.{over, over_tables, over_rows, over_value, over_vectors, over_sides, over_sessions, over_cursors, over_savepoints, over_session_ids, over_cursor_numbers, over_commits};
 ghost use Rattle.row_model.specs.RefusalOrder.{first};
 
 use vec_base::{
-    LAST_SESSION, MOST_COMMITS, MOST_ROWS, MOST_SESSIONS, MOST_SIDE_BYTES, MOST_TABLES,
-    MOST_VALUE_BYTES, MOST_VECTOR_BYTES, Refusal,
+    LAST_CURSOR, LAST_SESSION, MOST_COMMITS, MOST_CURSORS, MOST_ROWS, MOST_SAVEPOINTS,
+    MOST_SESSIONS, MOST_SIDE_BYTES, MOST_TABLES, MOST_VALUE_BYTES, MOST_VECTOR_BYTES, Refusal,
 };
 
 /// Tables of a catalog.
@@ -97,11 +97,32 @@ pub fn over_sessions(count: u64) -> Option<Refusal>
     over(SESSIONS_LIMIT, MOST_SESSIONS as u64, count)
 }
 
+/// The refusal of so many open cursors of a session.
+pub fn over_cursors(count: u64) -> Option<Refusal>
+    ensures { result ≡ first (over_cursors count) }
+{
+    over(CURSORS_LIMIT, MOST_CURSORS as u64, count)
+}
+
+/// The refusal of so many savepoints of a session.
+pub fn over_savepoints(count: u64) -> Option<Refusal>
+    ensures { result ≡ first (over_savepoints count) }
+{
+    over(SAVEPOINTS_LIMIT, MOST_SAVEPOINTS as u64, count)
+}
+
 /// The refusal of the id for one more session.
 pub fn over_session_ids(count: u64) -> Option<Refusal>
     ensures { result ≡ first (over_session_ids count) }
 {
     over(SESSION_IDS_LIMIT, u64::from(LAST_SESSION), count)
+}
+
+/// The refusal of the number for one more cursor of a session.
+pub fn over_cursor_numbers(count: u64) -> Option<Refusal>
+    ensures { result ≡ first (over_cursor_numbers count) }
+{
+    over(CURSOR_NUMBERS_LIMIT, u64::from(LAST_CURSOR), count)
 }
 
 /// The refusal of so many commits.

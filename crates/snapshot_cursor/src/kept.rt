@@ -2,19 +2,9 @@
 ghost use Rattle.std.specs.Prelude.{◌≡◌, ◌≤◌, take, drop, length, map, ◌==◌, IfOk, List as Seq, ℕ};
 ghost use Rattle.vec_base.specs.declared.value.Value.{Value as ValueOf};
 
+use row_model::copied_values;
 use std::alloc::Global;
 use vec_base::{List, Memory, Value};
-
-/// Equal values.
-fn copied(alloc: Global, values: &[Value]) -> Result<List<Value>, Memory>
-    ensures { IfOk result (λ copies. copies ≡ values.now) }
-{
-    let mut copies = Vec::with_capacity(alloc, values.len())?;
-    for value in values {
-        copies.push(value.copy(alloc)?)?;
-    }
-    Ok(List::from_vec(copies))
-}
 
 /// Equal rows.
 fn all_copied(alloc: Global, rows: &[List<Value>]) -> Result<List<List<Value>>, Memory>
@@ -22,7 +12,7 @@ fn all_copied(alloc: Global, rows: &[List<Value>]) -> Result<List<List<Value>>, 
 {
     let mut copies = Vec::with_capacity(alloc, rows.len())?;
     for row in rows {
-        copies.push(copied(alloc, row.as_slice())?)?;
+        copies.push(copied_values(alloc, row.as_slice())?)?;
     }
     Ok(List::from_vec(copies))
 }

@@ -3,7 +3,7 @@ use Rattle.std.specs.Prelude.{◌≡◌, ℕ, ◌⊎◌, true, false, List, [], 
 use Rattle.vec_base.specs.declared.refusal.Refusal.{Refusal}
 use Rattle.vec_base.specs.declared.refusal.Refusal.TheVariants.{Unsupported}
 use Rattle.row_model.specs.declared.statement.Statement.{Statement}
-use Rattle.row_model.specs.DirectStatements.{is_direct}
+use Rattle.plain_engine.specs.DirectStatements.{is_direct}
 use Rattle.sql_reader.specs.StatementReading.{SpellsStatement, IsRefusal}
 
 -- the text spells a statement of a transaction, or EXPLAIN

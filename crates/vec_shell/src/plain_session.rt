@@ -7,7 +7,7 @@ ghost use Rattle.row_model.specs.Machine.{first_state, no_tables};
 ghost use Rattle.row_model.specs.Step.{answer_of};
 
 use crate::session::Session;
-use plain_engine::PlainEngine;
+use plain_engine::{PlainEngine, is_direct};
 use row_model::{Reply, Request};
 use sql_reader::read_statement;
 use std::alloc::Global;
@@ -52,7 +52,7 @@ impl Session for PlainSession {
     fn answer(&mut self, text: &[u8]) -> Reply {
         match read_statement(self.alloc, text, &self.no_parameters) {
             Ok(statement) => {
-                if statement.is_direct() {
+                if is_direct(&statement) {
                     self.engine.answer(Request::Execute(FIRST, statement))
                 } else {
                     Reply::Refused(Refusal::Unsupported(0))

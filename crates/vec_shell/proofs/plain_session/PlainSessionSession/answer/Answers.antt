@@ -5,7 +5,7 @@ use Rattle.vec_base.specs.declared.value.Value.{Value}
 use Rattle.row_model.specs.declared.request.Reply.{Reply}
 use Rattle.row_model.specs.declared.request.Reply.TheVariants.{Refused}
 use Rattle.sql_reader.specs.StatementReading.{IsRefusal}
-use Rattle.row_model.specs.DirectStatements.{is_direct}
+use Rattle.plain_engine.specs.DirectStatements.{is_direct}
 use Rattle.vec_shell.proofs.plain_session.PlainSessionSession.answer.Goals as goal
 
 pub returns-else-is_direct : goal.returns-else-is_direct
