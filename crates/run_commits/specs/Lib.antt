@@ -1,0 +1,2 @@
+-- Commits: the commits of a run, and the catalog after them.
+pub mod Commits
