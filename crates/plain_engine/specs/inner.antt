@@ -1,7 +1,11 @@
-pub mod AutoCommit
 pub mod Bounds
 pub mod ByteTotals
+pub mod CatalogChanges
+pub mod CursorAnswers
+pub mod Machines
 pub mod OneValidity
 pub mod OrderedTables
+pub mod Places
 pub mod RowHits
+pub mod SessionChanges
 pub mod TablePlaces

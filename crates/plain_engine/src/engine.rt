@@ -1,119 +1,109 @@
 //! The plain engine: lists with copies, which does what the definitions say and keeps nothing beside the rows.
-ghost use Rattle.std.specs.Prelude.{◌≡◌, ◌+◌, ◌++◌, true, length, None, MatchBool, IfOk};
-ghost use Rattle.row_model.specs.declared.request.Request.TheVariants.{Execute, OpenSession};
-ghost use Rattle.plain_engine.specs.inner.AutoCommit.{all_idle, ExecutesInAutoCommit};
-ghost use Rattle.row_model.specs.Limits.{over_sessions, over_session_ids};
-ghost use Rattle.row_model.specs.RefusalOrder.{first};
-ghost use Rattle.row_model.specs.Machine.{first_state, new_session, no_tables, session_of};
-ghost use Rattle.plain_engine.specs.DirectStatements.{is_direct};
-ghost use Rattle.plain_engine.specs.DirectRequests.{is_direct_request};
-ghost use Rattle.plain_engine.specs.inner.OneValidity.{state_prop};
-ghost use Rattle.row_model.specs.Step.{StepsInMemory};
-ghost use Rattle.row_model.specs.Valid.{IsValidCatalog, IsValidState};
+ghost use Rattle.std.specs.Prelude.{◌≡◌, IfOk};
+ghost use Rattle.row_model.specs.declared.request.Request.TheVariants.{CloseCursor, CloseSession, Execute, Fetch, OpenCursor};
+ghost use Rattle.row_model.specs.Machine.{first_state, no_tables};
+ghost use Rattle.row_model.specs.Step.{answer_of, executed, StepsInMemory};
+ghost use Rattle.row_model.specs.Valid.{IsValidState};
 ghost use Rattle.row_model.specs.WellFormed.{IsWellFormedRequest};
+ghost use Rattle.plain_engine.specs.inner.Machines.{Answers, IsAt, session_at, state_of};
+ghost use Rattle.plain_engine.specs.inner.OneValidity.{state_prop};
 
-use crate::execute::{create, delete, drop_table, insert, select, update};
-use row_model::{
-    Catalog, Phase, Reply, Request, Session, State, Statement, over_session_ids, over_sessions,
-};
+use crate::machine::{Machine, place_of};
+use crate::reads::{explain, select};
+use row_model::{Catalog, Reply, Request, Select, Statement};
 use std::alloc::Global;
 use std::marker::Model;
 use vec_base::{List, Memory, Refusal};
 
-/// A session that is in no transaction.
-fn new_session(alloc: Global, id: u32) -> Session
-    ensures { result ≡ new_session id }
-{
-    Session {
-        id,
-        phase: Phase::Idle,
-        by_savepoint: false,
-        marks: List::new(alloc),
-        cursors: List::new(alloc),
-        last_cursor: 0,
-    }
-}
-
-/// Whether a session with the id is open.
-fn is_open(sessions: &[Session], id: u32) -> bool
-    ensures { MatchBool result ((session_of id sessions.now ≡ None) → ⊥) (session_of id sessions.now ≡ None) }
-{
-    for session in sessions {
-        if session.id == id {
-            return true;
+impl Machine {
+    /// Executes a statement in the session at the place.
+    fn execute(&mut self, alloc: Global, at: usize, statement: Statement) -> Reply
+        requires at { IsAt self.old.sessions.items at }
+        requires valid { IsValidState (state_of self.old) }
+        ensures { Answers (executed (state_of self.old) (session_at self.old at) statement) self.old result self.new }
+    {
+        match statement {
+            Statement::Create(name, schema) => self.create(alloc, at, name, schema),
+            Statement::Drop(name) => self.drop_table(alloc, at, &name),
+            Statement::Insert(statement) => self.insert(alloc, at, &statement),
+            Statement::Update(statement) => self.update(alloc, at, &statement),
+            Statement::Delete(statement) => self.delete(alloc, at, &statement),
+            Statement::Select(statement) => select(alloc, self.seen(at), &statement),
+            Statement::Explain(statement) => explain(self.seen(at), &statement),
+            Statement::Begin(immediate) => self.begin(alloc, at, immediate),
+            Statement::Commit => self.commit(alloc, at),
+            Statement::Rollback => self.roll_back(alloc, at),
+            Statement::RollbackTo(name) => self.roll_back_to(alloc, at, &name),
+            Statement::Savepoint(name) => self.save(alloc, at, name),
+            Statement::Release(name) => self.release(alloc, at, &name),
         }
     }
-    false
-}
 
-/// The refusal of one more session.
-pub(crate) fn one_session_more(sessions: &[Session], last_id: u32) -> Option<Refusal>
-    ensures { result ≡ first (over_sessions (length sessions.now + 1) ++ over_session_ids (last_id + 1)) }
-{
-    over_sessions((sessions.len() as u64).saturating_add(1)).or(over_session_ids(
-        u64::from(last_id) + 1,
-    ))
-}
-
-/// Opens a session with the last id plus one.
-fn open(state: &mut State, alloc: Global) -> Reply
-    ensures { StepsInMemory state.old OpenSession result state.new }
-{
-    if let Some(refusal) = one_session_more(state.sessions.as_slice(), state.last_id) {
-        return Reply::Refused(refusal);
-    }
-    let id = state.last_id + 1;
-    match state.sessions.push(new_session(alloc, id)) {
-        Ok(()) => {
-            state.last_id = id;
-            Reply::Session(id)
+    /// Executes a statement in the session of the id.
+    fn execute_in(&mut self, alloc: Global, id: u32, statement: Statement) -> Reply
+        requires valid { IsValidState (state_of self.old) }
+        ensures { Answers (answer_of (state_of self.old) (Execute id statement)) self.old result self.new }
+    {
+        match place_of(self.sessions.as_slice(), id) {
+            Some(at) => self.execute(alloc, at, statement),
+            None => Reply::Refused(Refusal::NoSession),
         }
-        Err(Memory) => Reply::Refused(Refusal::WantOfMemory),
     }
-}
 
-/// Executes a statement where no session is in a transaction.
-fn execute_direct(state: &mut State, alloc: Global, statement: Statement) -> Reply
-    requires idle { all_idle state.old.sessions ≡ true }
-    requires valid { IsValidCatalog state.old.catalog }
-    requires direct { is_direct statement ≡ true }
-    ensures { ExecutesInAutoCommit state.old statement result state.new }
-{
-    match statement {
-        Statement::Create(name, schema) => create(state, alloc, name, schema),
-        Statement::Drop(name) => drop_table(state, &name),
-        Statement::Insert(statement) => insert(state, alloc, &statement),
-        Statement::Update(statement) => update(state, alloc, &statement),
-        Statement::Delete(statement) => delete(state, alloc, &statement),
-        Statement::Select(statement) => select(state, alloc, &statement),
-        _ => unreachable!(),
+    /// Closes the session of the id.
+    fn close_in(&mut self, id: u32) -> Reply
+        ensures { Answers (answer_of (state_of self.old) (CloseSession id)) self.old result self.new }
+    {
+        match place_of(self.sessions.as_slice(), id) {
+            Some(at) => self.close(at),
+            None => Reply::Refused(Refusal::NoSession),
+        }
     }
-}
 
-/// Executes a statement in the session of the id.
-fn execute_in(state: &mut State, alloc: Global, id: u32, statement: Statement) -> Reply
-    requires idle { all_idle state.old.sessions ≡ true }
-    requires valid { IsValidCatalog state.old.catalog }
-    requires direct { is_direct statement ≡ true }
-    ensures { StepsInMemory state.old (Execute id statement) result state.new }
-{
-    if !is_open(state.sessions.as_slice(), id) {
-        return Reply::Refused(Refusal::NoSession);
+    /// Opens a cursor in the session of the id.
+    fn open_cursor_in(&mut self, alloc: Global, id: u32, select: &Select) -> Reply
+        requires valid { IsValidState (state_of self.old) }
+        ensures { Answers (answer_of (state_of self.old) (OpenCursor id select.now)) self.old result self.new }
+    {
+        match place_of(self.sessions.as_slice(), id) {
+            Some(at) => self.open_cursor(alloc, at, select),
+            None => Reply::Refused(Refusal::NoSession),
+        }
     }
-    execute_direct(state, alloc, statement)
-}
 
-/// Answers a request.
-fn answer_in(state: &mut State, alloc: Global, request: Request) -> Reply
-    requires idle { all_idle state.old.sessions ≡ true }
-    requires valid { IsValidCatalog state.old.catalog }
-    requires served { is_direct_request request ≡ true }
-    ensures { StepsInMemory state.old request result state.new }
-{
-    match request {
-        Request::OpenSession => open(state, alloc),
-        Request::Execute(id, statement) => execute_in(state, alloc, id, statement),
-        _ => unreachable!(),
+    /// Answers the next rows of a cursor in the session of the id.
+    fn fetch_in(&mut self, alloc: Global, id: u32, number: u32, count: u16) -> Reply
+        ensures { Answers (answer_of (state_of self.old) (Fetch id number count)) self.old result self.new }
+    {
+        match place_of(self.sessions.as_slice(), id) {
+            Some(at) => self.fetch(alloc, at, number, count),
+            None => Reply::Refused(Refusal::NoSession),
+        }
+    }
+
+    /// Closes a cursor in the session of the id.
+    fn close_cursor_in(&mut self, id: u32, number: u32) -> Reply
+        ensures { Answers (answer_of (state_of self.old) (CloseCursor id number)) self.old result self.new }
+    {
+        match place_of(self.sessions.as_slice(), id) {
+            Some(at) => self.close_cursor(at, number),
+            None => Reply::Refused(Refusal::NoSession),
+        }
+    }
+
+    /// Answers a request.
+    fn answer(&mut self, alloc: Global, request: Request) -> Reply
+        requires valid { IsValidState (state_of self.old) }
+        ensures { Answers (answer_of (state_of self.old) request) self.old result self.new }
+    {
+        match request {
+            Request::OpenSession => self.open(alloc),
+            Request::CloseSession(id) => self.close_in(id),
+            Request::Execute(id, statement) => self.execute_in(alloc, id, statement),
+            Request::OpenCursor(id, statement) => self.open_cursor_in(alloc, id, &statement),
+            Request::Fetch(id, number, count) => self.fetch_in(alloc, id, number, count),
+            Request::CloseCursor(id, number) => self.close_cursor_in(id, number),
+        }
     }
 }
 
@@ -121,17 +111,17 @@ fn answer_in(state: &mut State, alloc: Global, request: Request) -> Reply
 #[derive(Drop)]
 pub struct PlainEngine {
     alloc: Global,
-    state: State,
-    ghost idle: { all_idle state.sessions ≡ true },
-    ghost valid: { IsValidState state } by { state_prop state },
+    machine: Machine,
+    ghost valid: { IsValidState (state_of machine) } by { state_prop (state_of machine) },
 }
 
 impl Model for PlainEngine {
     ghost use Rattle.row_model.specs.declared.state.State.{State as StateOf};
+    ghost use Rattle.plain_engine.specs.inner.Machines.{state_of};
 
     ghost Value = { StateOf };
 
-    ghost view = { λ engine. engine.state };
+    ghost view = { λ engine. state_of engine.machine };
 }
 
 impl PlainEngine {
@@ -142,22 +132,20 @@ impl PlainEngine {
         let catalog = Catalog {
             tables: List::new(alloc),
         };
-        let state = State {
+        let machine = Machine {
             catalog,
             commits: 0,
             last_id: 0,
-            sessions: List::new(alloc),
+            sessions: Vec::new(alloc),
         };
-        Ok(PlainEngine { alloc, state })
+        Ok(PlainEngine { alloc, machine })
     }
 
-    /// Answers a request: OpenSession, or Execute of a CREATE, DROP, INSERT, UPDATE, DELETE or SELECT, whose statement is
-    /// well formed. A refusal leaves the state.
+    /// Answers a request whose statement is well formed. A refusal leaves the state.
     pub fn answer(&mut self, request: Request) -> Reply
-        requires served { is_direct_request request ≡ true }
         requires well_formed { IsWellFormedRequest request }
         ensures { StepsInMemory self.old request result self.new }
     {
-        answer_in(&mut self.state, self.alloc, request)
+        self.machine.answer(self.alloc, request)
     }
 }

@@ -3,16 +3,24 @@
 
 mod answer;
 mod catalog;
+mod changes;
+mod copies;
+mod cursors;
 mod direct;
 mod engine;
-mod execute;
 mod grow;
 mod insert;
 mod items;
+mod machine;
+mod marks;
 mod meet;
 mod nearest;
+mod reads;
+mod sessions;
 mod totals;
+mod transactions;
 mod update;
+mod writes;
 
 pub use direct::is_direct;
 pub use engine::PlainEngine;
