@@ -23,7 +23,7 @@ plain_shape : (some : Bool) → is_nearest_shape (if some then Point else Scan) 
 plain_shape true = refl
 plain_shape false = refl
 
-none_nearest : (columns : List Column) (terms : List Constraint) (b : Bool) → is_nearest terms ≡ b → target_of columns terms ≡ None → b ≡ false
+pub none_nearest : (columns : List Column) (terms : List Constraint) (b : Bool) → is_nearest terms ≡ b → target_of columns terms ≡ None → b ≡ false
 none_nearest columns terms false is none = refl
 none_nearest columns terms true is none =
     absurd (false≢true (sym (plain_shape (list_any (is_point_term columns) terms)) ∙ ap (λ (t : Option Target). is_nearest_shape (shape_by t columns terms)) (sym none) ∙ ap is_nearest_shape (nearest_shape columns terms is)))

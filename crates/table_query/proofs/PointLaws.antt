@@ -21,7 +21,7 @@ use Rattle.row_model.specs.ColumnNames.{column_number, declared_place, is_count,
 use Rattle.row_model.specs.Rows.{is_rising}
 use Rattle.row_model.specs.Schemas.{count_of, is_key}
 use Rattle.row_model.specs.Valid.{are_valid_values, have_own_ids, is_valid_row}
-use Rattle.row_model.specs.Values.{is_of_type, meets, meets_all, passes, value_at}
+use Rattle.row_model.specs.Values.{is_of_type, meets, meets_all, met, passes, value_at}
 use Rattle.row_model.specs.declared.request.Shape.TheVariants.{Point}
 use Rattle.row_model.specs.declared.row.Row.{Row}
 use Rattle.row_model.specs.declared.schema.Column.{Column}
@@ -43,7 +43,7 @@ use Rattle.row_store.specs.StoredRows.{has_text}
 use Rattle.shadow_records.specs.PlacedTables.{IsPlaced, PlacedRow, PlacedTable, plain_rows, row_of}
 use Rattle.table_query.specs.Met.{is_met, next_met, rowid_of}
 use Rattle.table_query.specs.Said.{rowid_for, rowid_said}
-use Rattle.table_query.proofs.FindLaws.{found_by_key, found_passes}
+use Rattle.table_query.proofs.FindLaws.{found_by_key, found_passes, mapped_some}
 use Rattle.table_query.proofs.ScanLaws.{from_rows, placed_rise}
 use Rattle.table_version.proofs.WeavingLaws.{fewer_keys, no_id_behind, same_id-texts}
 use Rattle.table_version.specs.Kept.{id_in, is_one_id, text_in}
@@ -357,3 +357,72 @@ no_term columns plan A i is at none = by_terms plan.select.where_terms (sym is.p
       let first = position-Some (is_point_term columns) (term ∷ terms) i term found in
       let there = slice_get-get_or (term ∷ terms) i term first.0 in
       absurd cc
+
+-- ---- the row that is met
+
+none_such : (such : Row → Bool) (test : PlacedRow → Bool) (ps : List PlacedRow) → AllByRecursion (λ (p : PlacedRow). such p.row ≡ true → test p ≡ true) ps → list_any test ps ≡ false → filter such (plain_rows ps) ≡ []
+none_such such test [] each none = refl
+none_such such test (p ∷ ps) each none = by_such (such p.row) refl (none_such such test ps each.1 (or_second (test p) (list_any test ps) none)) where
+  by_such : (b : Bool) → such p.row ≡ b → filter such (plain_rows ps) ≡ [] → filter such (plain_rows (p ∷ ps)) ≡ []
+  by_such true e rest = let here : test p ≡ true = each.0 e in let gone : (true || list_any test ps) ≡ false = ap (λ b. b || list_any test ps) (sym here) ∙ none in absurd cc
+  by_such false e rest = cond-false _ _ _ e ∙ rest
+
+-- where such rows pass a test that one row at most passes, the first of them is the only one
+only_such : (such : Row → Bool) (test : PlacedRow → Bool) (ps : List PlacedRow) → AllByRecursion (λ (p : PlacedRow). such p.row ≡ true → test p ≡ true) ps → IsAlone test ps →
+    (row : Row) → from_rows such None ps ≡ Some row → filter such (plain_rows ps) ≡ row ∷ []
+only_such such test [] each alone row found = absurd cc
+only_such such test (p ∷ ps) each alone row found = by_such (such p.row) refl (λ later. only_such such test ps each.1 alone.1 row later) where
+  by_such : (b : Bool) → such p.row ≡ b → (from_rows such None ps ≡ Some row → filter such (plain_rows ps) ≡ row ∷ []) → filter such (plain_rows (p ∷ ps)) ≡ row ∷ []
+  by_such true e rest =
+      let first : Some p.row ≡ Some row = sym (ap (λ b. find (λ (r : Row). true) (cond b (p.row ∷ filter such (plain_rows ps)) (filter such (plain_rows ps)))) e) ∙ found in
+      let same : p.row ≡ row = cc in
+      cond-true _ _ _ e ∙ ap₂ (λ (r : Row) (rs : List Row). r ∷ rs) same (none_such such test ps each.1 (alone.0 (each.0 e)))
+  by_such false e rest =
+      cond-false _ _ _ e ∙ rest (sym (ap (λ b. find (λ (r : Row). true) (cond b (p.row ∷ filter such (plain_rows ps)) (filter such (plain_rows ps)))) e) ∙ found)
+
+-- the row of the rowid is the only one that meets all terms
+pub record IsOneMet (table : PlacedTable) (plan : Planned) (rowid : ℤ) : Type 0 where
+  pub placed : PlacedRow
+  pub there : row_of table.rows rowid ≡ Some placed
+  pub only : met table.schema.columns plan.select.where_terms (plain_rows table.rows) ≡ placed.row ∷ []
+
+such_found : (such : Row → Bool) (o : Option PlacedRow) (row : Row) → such_of such o ≡ Some row → (p : PlacedRow) × ((o ≡ Some p) × (p.row ≡ row))
+such_found such None row is = absurd cc
+such_found such (Some p) row is = (p, (refl, by_test (such p.row) is)) where
+  by_test : (b : Bool) → cond b (Some p.row) None ≡ Some row → p.row ≡ row
+  by_test true e = cc
+  by_test false e = absurd cc
+
+one_met : (table : PlacedTable) (plan : Planned) (rowid : ℤ) → IsPlaced table → (said : Option ℤ) → IsFor table.schema.columns plan.select.where_terms table.rows said →
+    the_answer table plan ≡ Some rowid → IsOneMet table plan rowid
+one_met table plan rowid placed said for answered =
+    let such : Row → Bool = meets_all table.schema.columns plan.select.where_terms in
+    let from = mapped_some rowid_of (from_rows such None table.rows) rowid answered in
+    let row = from.0 in
+    let found = such_found such (find for.test table.rows) row (sym (only_row such for.test table.rows for.each for.alone) ∙ from.1.0) in
+    let p = found.0 in
+    let own : p.row.rowid ≡ rowid = ap (λ (r : Row). r.rowid) found.1.1 ∙ from.1.1 in
+    let by_key : row_of table.rows p.row.rowid ≡ Some p = found_by_key rowid_in for.test table.rows p (sym (placed_rise table.rows) ∙ placed.valid.rising) found.1.0 in
+    record {
+      placed = p;
+      there = ap (row_of table.rows) (sym own) ∙ by_key;
+      only = only_such such for.test table.rows for.each for.alone row from.1.0 ∙ ap (λ (r : Row). r ∷ []) (sym found.1.1);
+    }
+
+pub point_one : (table : PlacedTable) (plan : Planned) → IsPlaced table → IsPlanFor table.schema.columns plan → plan.shape ≡ Point → (rowid : ℤ) → the_answer table plan ≡ Some rowid → IsOneMet table plan rowid
+point_one table plan placed is point rowid answered = by_index plan.point refl where
+  by_term : (i : ℕ) → plan.point ≡ Some i → (term : Option Constraint) → slice_get plan.select.where_terms i ≡ term → IsOneMet table plan rowid
+  by_term i at None found = no_term table.schema.columns plan (IsOneMet table plan rowid) i is at found
+  by_term i at (Some term) found =
+      one_met table plan rowid placed (rowid_said table.schema.columns table.rows term.test) (point_is_for table plan placed is i term at found) answered
+
+  by_index : (index : Option ℕ) → plan.point ≡ index → IsOneMet table plan rowid
+  by_index None at = no_index table.schema.columns plan (IsOneMet table plan rowid) is point at
+  by_index (Some i) at = by_term i at (slice_get plan.select.where_terms i) refl
+
+-- where no row is found, none meets all terms
+pub point_none : (table : PlacedTable) (plan : Planned) → the_answer table plan ≡ None → met table.schema.columns plan.select.where_terms (plain_rows table.rows) ≡ []
+point_none table plan none = by_rows (met table.schema.columns plan.select.where_terms (plain_rows table.rows)) none where
+  by_rows : (rows : List Row) → option_map rowid_of (find (λ (r : Row). true) rows) ≡ None → rows ≡ []
+  by_rows [] e = refl
+  by_rows (row ∷ rows) e = absurd cc
