@@ -1,0 +1,5 @@
+pub mod Capped
+pub mod NewValues
+pub mod OneByOne
+pub mod SetColumns
+pub mod TakenGroups
