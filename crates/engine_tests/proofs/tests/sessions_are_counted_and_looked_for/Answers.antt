@@ -2,6 +2,6 @@ use Rattle.std.proofs.Common.{refl}
 use Rattle.vec_base.specs.Words.{is_reserved}
 use Rattle.engine_tests.proofs.tests.sessions_are_counted_and_looked_for.Goals as goal
 
-pub answer-reply-requires-3-clause-well_formed : goal.answer-reply-requires-3-clause-well_formed
+pub answer-reply-requires-3 : goal.answer-reply-requires-3
 unfolding is_reserved
-answer-reply-requires-3-clause-well_formed g c = rw c.in_ok-from_text.ensures (refl, tt)
+answer-reply-requires-3 g c = record { well_formed = rw c.in_ok-from_text.ensures (refl, tt) }
