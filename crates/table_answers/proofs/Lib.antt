@@ -1,0 +1,4 @@
+pub mod CountLaws
+pub mod HitLaws
+pub mod PointFacts
+pub mod ShapeFacts
