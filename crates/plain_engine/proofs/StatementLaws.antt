@@ -31,6 +31,10 @@ barred-by bar refusal change e = ap (λ (o : Option Refusal). barred o change) e
 pub not-barred : (bar : Option Refusal) (change : Result (Reply × Catalog) Refusal) → bar ≡ None → barred bar change ≡ change
 not-barred bar change e = ap (λ (o : Option Refusal). barred o change) e
 
+pub made-by : (whole change : Result (Reply × Catalog) Refusal) (reply : Reply) (catalog new : Catalog) → whole ≡ change → change ≡ Ok (reply, catalog) → new ≡ catalog →
+    Ok (reply, new) ≡ whole
+made-by whole change reply catalog new free made same = sym (free ∙ made ∙ ap (λ (z : Catalog). Ok (reply, z)) (sym same))
+
 pub refused-by : (fault : Option Refusal) (refusal : Refusal) (rows : Result (List (List Value)) Refusal) → fault ≡ Some refusal → or_refused fault rows ≡ Err refusal
 refused-by fault refusal rows e = ap (λ (o : Option Refusal). or_refused o rows) e
 

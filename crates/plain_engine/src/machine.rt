@@ -6,7 +6,7 @@ ghost use Rattle.plain_engine.specs.inner.Machines.{IsOfId, seen_at};
 use row_model::{Catalog, Phase, Session};
 
 /// The committed tables, the number of commits, the last id that a session got, and the open sessions.
-#[derive(Debug, Drop)]
+#[derive(Drop)]
 pub(crate) struct Machine {
     pub(crate) catalog: Catalog,
     pub(crate) commits: u64,

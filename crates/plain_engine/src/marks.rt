@@ -58,8 +58,8 @@ fn add_mark(
     Ok(())
 }
 
-/// The first marks.
-fn first_marks(alloc: Global, marks: &mut List<Mark>, count: usize)
+/// Keeps the first marks.
+fn keep_marks(alloc: Global, marks: &mut List<Mark>, count: usize)
     ensures { marks.new ≡ take count marks.old }
 {
     let mut kept = mem::replace(marks, List::new(alloc)).into_vec();
@@ -83,15 +83,15 @@ fn go_back(session: &mut Session, alloc: Global, catalog: Catalog, count: usize)
     ensures { session.new ≡ gone_back catalog count session.old }
 {
     session.phase = given_back(catalog, &session.phase);
-    first_marks(alloc, &mut session.marks, count);
+    keep_marks(alloc, &mut session.marks, count);
     session.cursors = List::new(alloc);
 }
 
-/// So many marks of a session stay.
+/// Keeps the first marks of a session.
 fn cut(session: &mut Session, alloc: Global, count: usize)
     ensures { session.new ≡ cut_to count session.old }
 {
-    first_marks(alloc, &mut session.marks, count);
+    keep_marks(alloc, &mut session.marks, count);
 }
 
 impl Machine {

@@ -1,11 +1,10 @@
 use Rattle.std.proofs.Common.{◌≡◌, List, Some, None, Ok, ap, sym, ◌∙◌}
 use Rattle.row_model.specs.declared.schema.Column.{Column}
 use Rattle.row_model.specs.declared.request.Reply.TheVariants.{Changed}
-use Rattle.row_model.specs.declared.row.Catalog.{Catalog}
 use Rattle.row_model.specs.Check.{check_delete}
 use Rattle.plain_engine.specs.inner.TablePlaces.{IsTable}
 use Rattle.row_model.proofs.SchemaLaws.{narrow_columns}
-use Rattle.plain_engine.proofs.StatementLaws.{barred-by, delete-at, not-barred}
+use Rattle.plain_engine.proofs.StatementLaws.{barred-by, delete-at, made-by, not-barred}
 use Rattle.plain_engine.proofs.TableLaws.{table_valid}
 use Rattle.plain_engine.proofs.changes.delete.Goals as goal
 
@@ -44,4 +43,4 @@ returns c =
     ap (λ (columns : List Column). check_delete columns delete) (sym c.as_slice.ensures) ∙ sym c.check_delete.ensures ∙ c.in_default-check_delete.is in
     let free = delete-at delete c.args.catalog.now c.args.bar c.in-Some.found.table.now found ∙ not-barred _ _ fine ∙ not-barred c.args.bar _ c.in_default-bar.is in
     let new = rw c.as_slice-tables.ensures at (c.in_ok-new.ensures delete.table c.in-Some.ensures.at) in
-    sym (free ∙ ap (λ z. Ok z) (c.in_ok-edited.ensures c.args.catalog.now) ∙ ap (λ (z : Catalog). Ok (Changed c.in_ok-edited.edited.count, z)) (sym new))
+    made-by _ _ (Changed c.in_ok-edited.edited.count) _ c.in_ok-new.new free (ap (λ z. Ok z) (c.in_ok-edited.ensures c.args.catalog.now)) new

@@ -1,11 +1,10 @@
-use Rattle.std.proofs.Common.{◌≡◌, List, Some, None, Ok, ap, sym, ◌∙◌}
+use Rattle.std.proofs.Common.{◌≡◌, List, Some, None, ap, sym, ◌∙◌}
 use Rattle.row_model.specs.declared.schema.Column.{Column}
 use Rattle.row_model.specs.declared.request.Reply.TheVariants.{Changed}
-use Rattle.row_model.specs.declared.row.Catalog.{Catalog}
 use Rattle.row_model.specs.Check.{check_update}
 use Rattle.plain_engine.specs.inner.TablePlaces.{IsTable}
 use Rattle.row_model.proofs.SchemaLaws.{narrow_columns}
-use Rattle.plain_engine.proofs.StatementLaws.{barred-by, update-at, not-barred}
+use Rattle.plain_engine.proofs.StatementLaws.{barred-by, made-by, not-barred, update-at}
 use Rattle.plain_engine.proofs.TableLaws.{table_valid}
 use Rattle.plain_engine.proofs.changes.update.Goals as goal
 
@@ -45,7 +44,7 @@ returns-in_ok-new-in-Ok c =
     let free = update-at update c.args.catalog.now c.args.bar c.in-Some.found.table.now found ∙ not-barred _ _ fine ∙ not-barred c.args.bar _ c.in_default-bar.is in
     let made = rw (c.in-Ok.is, c.as_slice-tables.ensures) at c.in_ok-edited.ensures.edited in
     let new = rw c.as_slice-tables.ensures at (c.in_ok-new-in-Ok.ensures update.table c.in-Some.ensures.at) in
-    sym (free ∙ made ∙ ap (λ (z : Catalog). Ok (Changed c.in-Ok.edited.count, z)) (sym new))
+    made-by _ _ (Changed c.in-Ok.edited.count) _ c.in_ok-new-in-Ok.new free made new
 
 pub returns-in-Err : goal.returns-in-Err
 returns-in-Err c =
