@@ -3,11 +3,9 @@ use Rattle.std.proofs.Common.{◌≡◌, ℕ, zero, suc, ◌+◌, ◌<◌, Bool,
 use Rattle.std.specs.Prelude.{◌==◌}
 use Rattle.std.proofs.lemmas.List.{get_or-set_same, map-append, map-set}
 use Rattle.vec_base.specs.declared.value.Value.{Value}
-use Rattle.row_model.specs.declared.request.Reply.{Reply}
-use Rattle.row_model.specs.declared.request.Reply.TheVariants.{Done, Page}
-use Rattle.row_model.specs.declared.state.State.{State}
+use Rattle.row_model.specs.declared.request.Reply.TheVariants.{Cursor as CursorReply, Done, Page}
 use Rattle.row_model.specs.Machine.{cursor_of, in_session, with_cursor}
-use Rattle.row_model.specs.Step.{cursor_closed, fetched, with_new_cursor}
+use Rattle.row_model.specs.Step.{cursor_closed, fetched}
 use Rattle.snapshot_cursor.specs.declared.cursor.Cursor.{Cursor}
 use Rattle.snapshot_cursor.specs.Left.{rows_left}
 use Rattle.txn_sessions.specs.declared.machine.Machine.{Machine}
@@ -19,7 +17,7 @@ use Rattle.txn_sessions.specs.Lookups.{IsAt, IsCursor}
 use Rattle.txn_sessions.specs.Seen.{Versions, cursor_seen, rows_over, session_at, session_seen, state_of}
 use Rattle.txn_sessions.specs.Sessions.{cursor_at, exchanged, no_cursor, open_at, session_new, with_added, without_place}
 use Rattle.txn_sessions.specs.Sound.{IsOrigin, IsSound, IsSoundSession}
-use Rattle.txn_sessions.specs.Takes.{Takes}
+use Rattle.txn_sessions.specs.Takes.{Takes, cursor_added}
 use Rattle.txn_sessions.proofs.SessionLaws.{map-removed, on_at}
 use Rattle.txn_sessions.proofs.TurnLaws.{each_at, each_more, each_removed, each_set, takes_session}
 
@@ -43,15 +41,12 @@ added-on shelf cursor origin s own on = record {
   cursors = each_more (λ (c : OpenCursor). IsOrigin shelf c.origin) s.cursors (record { number = s.last_cursor + 1; cursor = cursor; origin = origin }) on.cursors own;
 }
 
--- the reply, and the state with one more cursor over these rows
-abbrev pub with_cursor_over : Machine → ℕ → List (List Value) → Reply → Reply × State
-with_cursor_over old at rows reply = (reply, in_session (state_of old) (with_new_cursor rows (session_at old at)))
-
-pub added-is : (old : Machine) (at : ℕ) (cursor : Cursor) (origin : Origin) (reply : Reply) →
-    with_cursor_over old at (rows_left cursor (rows_over old.shelf origin)) reply ≡ (reply, in_session (state_of old) (session_seen old.shelf (with_added cursor origin (open_at old.sessions.items at))))
-added-is old at cursor origin reply =
+pub added-is : (old : Machine) (at : ℕ) (cursor : Cursor) (origin : Origin) →
+    cursor_added old at (rows_left cursor (rows_over old.shelf origin))
+    ≡ (CursorReply ((open_at old.sessions.items at).last_cursor + 1), in_session (state_of old) (session_seen old.shelf (with_added cursor origin (open_at old.sessions.items at))))
+added-is old at cursor origin =
     let s = open_at old.sessions.items at in
-    ap (λ cs. (reply, in_session (state_of old) (record (session_at old at) { cursors = cs; last_cursor = s.last_cursor + 1 })))
+    ap (λ cs. (CursorReply (s.last_cursor + 1), in_session (state_of old) (record (session_at old at) { cursors = cs; last_cursor = s.last_cursor + 1 })))
     (sym (map-append (cursor_seen old.shelf) s.cursors (record { number = s.last_cursor + 1; cursor = cursor; origin = origin } ∷ [])))
 
 -- ---- one in place of another

@@ -1,6 +1,6 @@
 -- Places that no catalog names are emptied.
-use Rattle.std.proofs.Common.{◌≡◌, ℕ, zero, suc, ◌+◌, ◌<◌, List, [], ◌∷◌, length, get_or, set, Option, None, refl, sym, ap, ◌∙◌, subst, arith, ⊎_elim}
-use Rattle.std.proofs.lemmas.Bool.{cases_eq, cases_lt}
+use Rattle.std.proofs.Common.{◌≡◌, ℕ, zero, suc, ◌+◌, List, [], ◌∷◌, length, get_or, set, Option, None, refl, sym, ap, ◌∙◌, subst, arith, ⊎_elim}
+use Rattle.std.proofs.lemmas.Bool.{cases_eq}
 use Rattle.std.proofs.lemmas.List.{get_or-set_other, length-set}
 use Rattle.version_shelf.specs.declared.held.Held.{Held}
 use Rattle.version_shelf.proofs.PlaceLaws.{free-one}
@@ -11,8 +11,8 @@ use Rattle.txn_sessions.specs.declared.session.Origin.TheVariants.{Kept, Table}
 use Rattle.txn_sessions.specs.Moves.{Moved, Stays}
 use Rattle.txn_sessions.specs.Seen.{Versions}
 use Rattle.txn_sessions.specs.Sound.{InAll, IsOn, IsOrigin, IsSound}
-use Rattle.txn_sessions.specs.Sweeps.{Frees, IsSwept, IsUnnamed, Misses, MissesOrigin, SweepsTo}
-use Rattle.txn_sessions.proofs.MoveLaws.{OriginStays, all-both, moved-none, moved-on, moves}
+use Rattle.txn_sessions.specs.Sweeps.{Frees, IsUnnamed, Misses, MissesOrigin, SweepsTo}
+use Rattle.txn_sessions.proofs.MoveLaws.{OriginStays, all-both, moved-on, moves}
 
 frees : (shelf : Versions) (place : ℕ) (h : Held) → IsOn shelf h → Misses place h → Stays shelf (set shelf place None) h
 frees shelf place h on misses = (let one = free-one shelf h.places place misses on in record { on = one.0; shows = one.1 })
@@ -51,19 +51,12 @@ freed old new place sound misses shelf held commits last_id sessions = record {
   others = λ other empty. ap (λ (s : Versions). get_or s other None) shelf ∙ set-empty old.shelf place other empty;
 }
 
--- a place that a catalog names stays
-pub stays-named : (m : Machine) (place : ℕ) → IsSound m → (IsUnnamed place m → ⊥) → Frees place m m
-stays-named m place sound named = record { moved = moved-none m sound; size = refl; swept = λ unnamed. absurd (named unnamed); others = λ other empty. empty }
-
 -- ---- place by place
 
 unnamed-moved : (old new : Machine) (place : ℕ) → Moved old new → IsUnnamed place new → IsUnnamed place old
 unnamed-moved old new place moved unnamed =
     subst (λ (ss : List OpenSession). InAll (Misses place) (MissesOrigin place) old.held ss) moved.sessions
     (subst (λ (h : Held). InAll (Misses place) (MissesOrigin place) h new.sessions.items) moved.held unnamed)
-
-pub sweeps-none : (m : Machine) → IsSound m → SweepsTo 0 m m
-sweeps-none m sound = record { moved = moved-none m sound; size = refl; swept = λ place below. absurd (omega (arith, below)) }
 
 pub sweeps-more : (old mid new : Machine) (most : ℕ) → SweepsTo most old mid → Frees most mid new → SweepsTo (most + 1) old new
 sweeps-more old mid new most so one = record {
@@ -75,15 +68,3 @@ sweeps-more old mid new most so one = record {
       (λ ne. one.others place (so.swept place (omega (arith, below, ne)) (unnamed-moved mid new place one.moved unnamed)))
       (cases_eq place most);
 }
-
-beyond : {A : Type 0} (xs : List A) (p : ℕ) (d : A) → (p < length xs → ⊥) → get_or xs p d ≡ d
-beyond [] p d far = refl
-beyond (x ∷ xs) zero d far = absurd (far (omega arith))
-beyond (x ∷ xs) (suc p) d far = beyond xs p d (λ lt. far (omega (arith, lt)))
-
-pub swept-all : (old new : Machine) → SweepsTo (length old.shelf) old new → IsSwept new
-swept-all old new so place unnamed =
-    ⊎_elim
-    (λ (lt : place < length old.shelf). so.swept place lt unnamed)
-    (λ far. beyond new.shelf place None (λ lt. absurd (omega (arith, lt, far, so.size))))
-    (cases_lt place (length old.shelf))

@@ -13,7 +13,8 @@ use Rattle.txn_sessions.specs.Sessions.{cursor_at, mark_at, open_at}
 -- the first session of its id stands there
 pub record IsAt (sessions : List OpenSession) (at : ℕ) : Type 0 where
   pub within : at < length sessions
-  pub put : (shelf : Versions) (new : Session) → new.id ≡ (open_at sessions at).id → with_session new (sessions_seen shelf sessions) ≡ slice_set (sessions_seen shelf sessions) at new
+  pub put : (shelf : Versions) (new : Session) → new.id ≡ (open_at sessions at).id →
+      with_session new (sessions_seen shelf sessions) ≡ slice_set (sessions_seen shelf sessions) at new
   pub gone : (shelf : Versions) → without_session (open_at sessions at).id (sessions_seen shelf sessions) ≡ remove (sessions_seen shelf sessions) at
 
 -- the session of the id stands there
@@ -33,6 +34,7 @@ pub record IsMark (name : List ℕ) (marks : List Mark) (at : ℕ) : Type 0 wher
 pub record IsCursor (number : ℕ) (cursors : List OpenCursor) (at : ℕ) : Type 0 where
   pub within : at < length cursors
   pub is : (shelf : Versions) → cursor_of number (map (cursor_seen shelf) cursors) ≡ Some (cursor_seen shelf (cursor_at cursors at))
-  pub put : (shelf : Versions) (new : CursorRows) → new.number ≡ number → with_cursor new (map (cursor_seen shelf) cursors) ≡ slice_set (map (cursor_seen shelf) cursors) at new
+  pub put : (shelf : Versions) (new : CursorRows) → new.number ≡ number →
+      with_cursor new (map (cursor_seen shelf) cursors) ≡ slice_set (map (cursor_seen shelf) cursors) at new
   pub gone : (shelf : Versions) → without_cursor number (map (cursor_seen shelf) cursors) ≡ remove (map (cursor_seen shelf) cursors) at
   pub own : (cursor_at cursors at).number ≡ number

@@ -92,6 +92,10 @@ state_of m = state_from m.shelf m.held m.commits m.last_id m.sessions.items
 abbrev pub session_at : Machine → ℕ → Session
 session_at m at = session_seen m.shelf (open_at m.sessions.items at)
 
+-- its cursors
+abbrev pub cursors_at : Machine → ℕ → List OpenCursor
+cursors_at m at = (open_at m.sessions.items at).cursors
+
 -- the catalog that it sees
 abbrev pub held_seen : Machine → ℕ → Held
 held_seen m at = held_in m.held (open_at m.sessions.items at).phase

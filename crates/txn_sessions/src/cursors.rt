@@ -1,17 +1,15 @@
 //! Cursors of a session.
 ghost use Rattle.std.specs.Prelude.{◌≡◌, ◌<◌, ◌+◌, ◌++◌, None, MatchOption, map, length};
 ghost use Rattle.row_model.specs.Limits.{over_cursor_numbers, over_cursors};
-ghost use Rattle.row_model.specs.Machine.{cursor_of, in_session};
+ghost use Rattle.row_model.specs.Machine.{cursor_of};
 ghost use Rattle.row_model.specs.RefusalOrder.{first};
-ghost use Rattle.row_model.specs.Step.{cursor_closed, with_new_cursor};
-ghost use Rattle.row_model.specs.declared.request.Reply.TheVariants.{Cursor as CursorOf};
+ghost use Rattle.row_model.specs.Step.{cursor_closed};
 ghost use Rattle.snapshot_cursor.specs.Left.{rows_left};
 ghost use Rattle.txn_sessions.specs.Exchanges.{Exchanges};
 ghost use Rattle.txn_sessions.specs.Lookups.{IsAt, IsCursor};
-ghost use Rattle.txn_sessions.specs.Seen.{Versions, cursor_seen, rows_over, session_at, state_of};
-ghost use Rattle.txn_sessions.specs.Sessions.{open_at};
+ghost use Rattle.txn_sessions.specs.Seen.{Versions, cursor_seen, cursors_at, rows_over, session_at, state_of};
 ghost use Rattle.txn_sessions.specs.Sound.{IsOrigin, IsSound};
-ghost use Rattle.txn_sessions.specs.Takes.{Takes};
+ghost use Rattle.txn_sessions.specs.Takes.{cursor_added, cursor_refusals, Takes};
 
 use crate::machine::Machine;
 use crate::session::{OpenCursor, Origin};
@@ -47,7 +45,7 @@ impl Machine {
     /// Where the cursor of the number stands in its session.
     pub fn cursor_place(&self, at: usize, number: u32) -> Option<usize>
         requires { at < length self.now.sessions.items }
-        ensures { MatchOption result (cursor_of number (session_at self.now at).cursors ≡ None) (λ place. IsCursor number (open_at self.now.sessions.items at).cursors place) }
+        ensures { MatchOption result (cursor_of number (session_at self.now at).cursors ≡ None) (λ place. IsCursor number (cursors_at self.now at) place) }
     {
         cursor_in(self.sessions[at].cursors.as_slice(), number)
     }
@@ -55,7 +53,7 @@ impl Machine {
     /// The refusal of one more cursor of a session.
     pub fn cursor_refusal(&self, at: usize) -> Option<Refusal>
         requires { at < length self.now.sessions.items }
-        ensures { result ≡ first (over_cursors (length (session_at self.now at).cursors + 1) ++ over_cursor_numbers ((session_at self.now at).last_cursor + 1)) }
+        ensures { result ≡ first (cursor_refusals (session_at self.now at)) }
     {
         let session = &self.sessions[at];
         one_more_refusal(session.cursors.as_slice(), session.last_cursor)
@@ -66,8 +64,8 @@ impl Machine {
         requires sound { IsSound self.old }
         requires at { IsAt self.old.sessions.items at }
         requires origin { IsOrigin self.old.shelf origin }
-        requires room { first (over_cursors (length (session_at self.old at).cursors + 1) ++ over_cursor_numbers ((session_at self.old at).last_cursor + 1)) ≡ None }
-        ensures { Takes self.old (CursorOf ((session_at self.old at).last_cursor + 1), in_session (state_of self.old) (with_new_cursor (rows_left cursor (rows_over self.old.shelf origin)) (session_at self.old at))) result self.new }
+        requires room { first (cursor_refusals (session_at self.old at)) ≡ None }
+        ensures { Takes self.old (cursor_added self.old at (rows_left cursor (rows_over self.old.shelf origin))) result self.new }
     {
         Reply::Cursor(self.sessions[at].add_cursor(cursor, origin))
     }
@@ -75,7 +73,7 @@ impl Machine {
     /// Puts another cursor in the place of one, which is answered.
     pub fn exchange_cursor(&mut self, at: usize, place: usize, cursor: OpenCursor) -> OpenCursor
         requires at { at < length self.old.sessions.items }
-        requires place { place < length (open_at self.old.sessions.items at).cursors }
+        requires place { place < length (cursors_at self.old at) }
         ensures { Exchanges self.old at place cursor result self.new }
     {
         self.sessions[at].exchange_cursor(place, cursor)

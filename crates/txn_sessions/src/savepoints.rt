@@ -3,11 +3,11 @@ ghost use Rattle.std.specs.Prelude.{◌≡◌, ◌<◌, ◌+◌, length, None, M
 ghost use Rattle.row_model.specs.Limits.{over_savepoints};
 ghost use Rattle.row_model.specs.Machine.{newest_mark};
 ghost use Rattle.row_model.specs.RefusalOrder.{first};
-ghost use Rattle.row_model.specs.Step.{released, rolled_to, saved};
+ghost use Rattle.row_model.specs.declared.statement.Statement.TheVariants.{Release as ReleaseStatement, RollbackTo as RollbackToStatement, Savepoint as SavepointStatement};
 ghost use Rattle.txn_sessions.specs.Lookups.{IsAt, IsMark};
 ghost use Rattle.txn_sessions.specs.Seen.{Versions, mark_seen, session_at, state_of};
 ghost use Rattle.txn_sessions.specs.Sound.{IsSound};
-ghost use Rattle.txn_sessions.specs.Takes.{Takes};
+ghost use Rattle.txn_sessions.specs.Takes.{executed_at, Takes};
 ghost use Rattle.txn_sessions.specs.Turns.{released_at, saved_phase, TurnsTo};
 
 use crate::machine::Machine;
@@ -57,7 +57,7 @@ impl Machine {
     pub fn save(&mut self, at: usize, name: Txt) -> Reply
         requires sound { IsSound self.old }
         requires at { IsAt self.old.sessions.items at }
-        ensures { Takes self.old (saved name (state_of self.old) (session_at self.old at)) result self.new }
+        ensures { Takes self.old (executed_at self.old at (SavepointStatement name)) result self.new }
     {
         match mark_refusal(self.sessions[at].marks.as_slice()) {
             Some(refusal) => Reply::Refused(refusal),
@@ -74,7 +74,7 @@ impl Machine {
     pub fn roll_back_to(&mut self, at: usize, name: &Txt) -> Reply
         requires sound { IsSound self.old }
         requires at { IsAt self.old.sessions.items at }
-        ensures { Takes self.old (rolled_to name.now (state_of self.old) (session_at self.old at) (newest_mark name.now (session_at self.old at).marks)) result self.new }
+        ensures { Takes self.old (executed_at self.old at (RollbackToStatement name.now)) result self.new }
     {
         match mark_place(self.sessions[at].marks.as_slice(), name) {
             Some(place) => {
@@ -103,7 +103,7 @@ impl Machine {
     pub fn release(&mut self, at: usize, name: &Txt) -> Turn
         requires sound { IsSound self.old }
         requires at { IsAt self.old.sessions.items at }
-        ensures { TurnsTo self.old (released name.now (state_of self.old) (session_at self.old at) (newest_mark name.now (session_at self.old at).marks)) result self.new }
+        ensures { TurnsTo self.old (executed_at self.old at (ReleaseStatement name.now)) result self.new }
     {
         match mark_place(self.sessions[at].marks.as_slice(), name) {
             Some(place) => self.release_at(at, place),

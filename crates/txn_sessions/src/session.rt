@@ -1,5 +1,5 @@
 //! What is kept of an open session.
-ghost use Rattle.std.specs.Prelude.{◌≡◌, ◌<◌, ◌+◌, ◌^◌, length, IfOk};
+ghost use Rattle.std.specs.Prelude.{◌≡◌, ◌<◌, ◌+◌, length, IfOk};
 ghost use Rattle.txn_sessions.specs.Sessions.{cursor_at, cut_to, entered, exchanged, gone_back, is_idle_phase, is_writing_phase, left_idle, mark_at, saved_session, session_new, with_added, with_held, with_phase, without_place};
 ghost use Rattle.vec_base.specs.declared.limits.TheConstants.{LAST_CURSOR, MOST_CURSORS, MOST_SAVEPOINTS};
 

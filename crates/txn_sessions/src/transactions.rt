@@ -2,12 +2,13 @@
 ghost use Rattle.std.specs.Prelude.{◌≡◌, ◌<◌, length};
 ghost use Rattle.row_model.specs.Machine.{writer_beside};
 ghost use Rattle.row_model.specs.RefusalOrder.{first};
-ghost use Rattle.row_model.specs.Step.{begun, busy, busy_beside, committed, commits_spent, rolled_back};
+ghost use Rattle.row_model.specs.Step.{busy, busy_beside, commits_spent};
+ghost use Rattle.row_model.specs.declared.statement.Statement.TheVariants.{Begin as BeginStatement, Commit as CommitStatement, Rollback as RollbackStatement};
 ghost use Rattle.txn_sessions.specs.Lookups.{IsAt};
 ghost use Rattle.txn_sessions.specs.Seen.{Versions, session_at, session_seen, sessions_seen, state_of};
 ghost use Rattle.txn_sessions.specs.Sessions.{begin_phase, open_at};
 ghost use Rattle.txn_sessions.specs.Sound.{IsSound};
-ghost use Rattle.txn_sessions.specs.Takes.{Takes};
+ghost use Rattle.txn_sessions.specs.Takes.{executed_at, Takes};
 ghost use Rattle.txn_sessions.specs.Turns.{begin_refusals, TurnsTo};
 
 use crate::machine::Machine;
@@ -74,7 +75,7 @@ impl Machine {
     pub fn begin(&mut self, at: usize, immediate: bool) -> Reply
         requires sound { IsSound self.old }
         requires at { IsAt self.old.sessions.items at }
-        ensures { Takes self.old (begun immediate (state_of self.old) (session_at self.old at)) result self.new }
+        ensures { Takes self.old (executed_at self.old at (BeginStatement immediate)) result self.new }
     {
         match begin_refusal(self.sessions.as_slice(), at, immediate) {
             Some(refusal) => Reply::Refused(refusal),
@@ -90,7 +91,7 @@ impl Machine {
     pub fn commit(&mut self, at: usize) -> Turn
         requires sound { IsSound self.old }
         requires at { IsAt self.old.sessions.items at }
-        ensures { TurnsTo self.old (committed (state_of self.old) (session_at self.old at) (session_at self.old at).phase) result self.new }
+        ensures { TurnsTo self.old (executed_at self.old at CommitStatement) result self.new }
     {
         match self.sessions[at].phase {
             Phase::Idle => Turn::Answered(Reply::Refused(Refusal::TxnState)),
@@ -109,7 +110,7 @@ impl Machine {
     pub fn roll_back(&mut self, at: usize) -> Reply
         requires sound { IsSound self.old }
         requires at { IsAt self.old.sessions.items at }
-        ensures { Takes self.old (rolled_back (state_of self.old) (session_at self.old at)) result self.new }
+        ensures { Takes self.old (executed_at self.old at RollbackStatement) result self.new }
     {
         if self.sessions[at].phase.is_idle() {
             return Reply::Refused(Refusal::TxnState);

@@ -1,8 +1,8 @@
 //! What refuses a write, and how a changed catalog is taken in.
-ghost use Rattle.std.specs.Prelude.{◌≡◌, ◌≤◌, ◌<◌, ◌-◌, ◌++◌, length, slice_set, Some, None, Ok as ok, IfOk};
+ghost use Rattle.std.specs.Prelude.{◌≡◌, ◌≤◌, ◌<◌, ◌-◌, ◌++◌, length, slice_set, Some, None, IfOk};
 ghost use Rattle.row_model.specs.RefusalOrder.{first};
-ghost use Rattle.row_model.specs.Step.{busy_beside, old_snapshot, spent_at_once, taken_in, wrote};
-ghost use Rattle.txn_sessions.specs.Changes.{IsPut, changed_catalog, older_than};
+ghost use Rattle.row_model.specs.Step.{busy_beside, old_snapshot, spent_at_once};
+ghost use Rattle.txn_sessions.specs.Changes.{IsPut, changed_catalog, older_than, taken_at, wrote_at};
 ghost use Rattle.txn_sessions.specs.Lookups.{IsAt};
 ghost use Rattle.txn_sessions.specs.Moves.{Moved};
 ghost use Rattle.txn_sessions.specs.Seen.{catalog_at, session_at, state_of};
@@ -89,7 +89,7 @@ impl Machine {
         requires at { IsAt self.old.sessions.items at }
         requires on { IsOn self.old.shelf held }
         requires room { first (spent_at_once (state_of self.old) (session_at self.old at).phase) ≡ None }
-        ensures { TurnsTo self.old (reply, taken_in (state_of self.old) (session_at self.old at) (session_at self.old at).phase (catalog_at self.old.shelf held)) result self.new }
+        ensures { TurnsTo self.old (taken_at self.old at reply (catalog_at self.old.shelf held)) result self.new }
     {
         match self.sessions[at].phase {
             Phase::Idle => Turn::Commits(held, reply, None),
@@ -109,7 +109,7 @@ impl Machine {
         requires sound { IsSound self.old }
         requires at { IsAt self.old.sessions.items at }
         requires on { IsOn self.old.shelf held }
-        ensures { TurnsTo self.old (wrote (state_of self.old) (session_at self.old at) (ok (reply, catalog_at self.old.shelf held))) result self.new }
+        ensures { TurnsTo self.old (wrote_at self.old at reply (catalog_at self.old.shelf held)) result self.new }
     {
         match self.spent_at_once(at) {
             Some(refusal) => Turn::Answered(Reply::Refused(refusal)),
@@ -123,7 +123,7 @@ impl Machine {
         requires at { IsAt self.old.sessions.items at }
         requires put { IsPut self.old.shelf changed }
         requires room { first (spent_at_once (state_of self.old) (session_at self.old at).phase) ≡ None }
-        ensures { TurnsToOrWants self.old (wrote (state_of self.old) (session_at self.old at) (ok (changed.reply, changed_catalog self.old.shelf changed))) result self.new }
+        ensures { TurnsToOrWants self.old (wrote_at self.old at changed.reply (changed_catalog self.old.shelf changed)) result self.new }
     {
         let Changed {
             held,
@@ -143,7 +143,7 @@ impl Machine {
         requires sound { IsSound self.old }
         requires at { IsAt self.old.sessions.items at }
         requires put { IsPut self.old.shelf changed }
-        ensures { TurnsToOrWants self.old (wrote (state_of self.old) (session_at self.old at) (ok (changed.reply, changed_catalog self.old.shelf changed))) result self.new }
+        ensures { TurnsToOrWants self.old (wrote_at self.old at changed.reply (changed_catalog self.old.shelf changed)) result self.new }
     {
         match self.spent_at_once(at) {
             Some(refusal) => Turn::Answered(Reply::Refused(refusal)),

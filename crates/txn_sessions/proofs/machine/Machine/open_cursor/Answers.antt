@@ -16,5 +16,5 @@ returns c =
     let number : s.last_cursor + 1 ≡ c.add_cursor.result = ap (λ (o : OpenSession). o.last_cursor + 1) here ∙ sym c.add_cursor.ensures.number in
     takes_change (with_added c.args.cursor c.args.origin) old _ _ c.args.at c.index_mut.result.now c.add_cursor.new.self c.requires.sound c.requires.at c.index_mut.ensures.value c.add_cursor.ensures.session refl
     (added-on old.shelf c.args.cursor c.args.origin _ c.requires.origin)
-    (added-is old c.args.at c.args.cursor c.args.origin (Cursor (s.last_cursor + 1))
+    (added-is old c.args.at c.args.cursor c.args.origin
     ∙ ap (λ n. (Cursor n, in_session (state_of old) (session_seen old.shelf (with_added c.args.cursor c.args.origin s)))) number)

@@ -1,4 +1,4 @@
-use Rattle.std.proofs.Common.{◌≡◌, ◌∙◌, inl, sym}
+use Rattle.std.proofs.Common.{◌∙◌, inl, sym}
 use Rattle.row_model.specs.Step.{spent_at_once}
 use Rattle.txn_sessions.specs.Seen.{session_at, state_of}
 use Rattle.txn_sessions.proofs.TurnLaws.{takes_none, unless-some}
