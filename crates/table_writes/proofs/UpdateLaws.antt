@@ -10,7 +10,7 @@ use Rattle.std.proofs.lemmas.List.Sums.{sum_by-cons}
 use Rattle.vec_base.specs.declared.limits.TheConstants.{LAST_COUNT, MOST_SIDE_BYTES, MOST_VALUE_BYTES, MOST_VECTOR_BYTES}
 use Rattle.vec_base.specs.declared.refusal.Refusal.{Refusal}
 use Rattle.vec_base.specs.declared.value.Value.{Value}
-use Rattle.row_model.specs.Change.{Elsewhere, long_values, put_at, rows_side_bytes, rows_vector_bytes, set_all, update_refusals, updated, with_rows}
+use Rattle.row_model.specs.Change.{Elsewhere, long_values, put_at, rows_side_bytes, rows_vector_bytes, set_all, update_refusals, updated, updated_row, with_rows}
 use Rattle.row_model.specs.Check.{check_update}
 use Rattle.row_model.specs.ColumnNames.{place_of}
 use Rattle.row_model.specs.Limits.{over_sides, over_vectors}
@@ -18,7 +18,7 @@ use Rattle.row_model.specs.RefusalOrder.{first}
 use Rattle.row_model.specs.RepresentableStatements.{IsRepresentableAssign}
 use Rattle.row_model.specs.Rows.{is_rising}
 use Rattle.row_model.specs.Schemas.{is_key, is_partition, is_vector}
-use Rattle.row_model.specs.Values.{met, side_bytes}
+use Rattle.row_model.specs.Values.{meets_all, met, side_bytes}
 use Rattle.row_model.specs.declared.limits.TheConstants.{SIDE_BYTES_LIMIT, VECTOR_BYTES_LIMIT}
 use Rattle.row_model.specs.declared.row.Row.{Row}
 use Rattle.row_model.specs.declared.row.Table.{Table}
@@ -46,6 +46,7 @@ use Rattle.table_writes.specs.inner.Capped.{capped}
 use Rattle.table_writes.specs.inner.NewValues.{bytes_come, bytes_gone, declared_number, gone_at}
 use Rattle.table_writes.specs.inner.OneByOne.{one_by_one, set_one, with_sets, without}
 use Rattle.table_writes.specs.inner.SetColumns.{IsSettable}
+use Rattle.table_writes.specs.inner.Updates.{IsUpdateOf}
 use Rattle.table_writes.proofs.ByteLaws.{rows_after}
 use Rattle.table_writes.proofs.FoundLaws.{met_ids}
 use Rattle.table_writes.proofs.OneByOneLaws.{all_above, ids_above, not_equal}
@@ -134,6 +135,9 @@ pub record IsUpdatable (table : PlacedTable) (update : Update) (rowids : List �
   pub checked : check_update table.schema.columns update ≡ None
   pub met_are : rowids ≡ met_ids table.schema.columns update.where_terms (plain_rows table.rows)
 
+pub updatable : (table : PlacedTable) (update : Update) (rowids : List ℤ) (sets : List Assign) → IsPlaced table → IsUpdateOf table update rowids sets → IsUpdatable table update rowids
+updatable table update rowids sets placed is = record { placed = placed; checked = is.checked; met_are = is.met_are }
+
 pub sides_after : (table : PlacedTable) (update : Update) (rowids : List ℤ) (beside gone come total : ℕ) → IsUpdatable table update rowids → total ≡ rows_side_bytes (plain_rows table.rows) →
     gone ≡ capped (sum_by (λ (i : ℤ). gone_at table.schema.columns update.sets (row_of table.rows i)) rowids) → come ≡ capped (bytes_come update.sets) →
     capped (beside + capped (total - gone + capped (length rowids * come))) ≡ capped (beside + rows_side_bytes (updated table.schema.columns update (plain_rows table.rows)))
@@ -145,7 +149,7 @@ sides_after table update rowids beside gone come total is total_is gone_are come
     let all_gone = sum_by (bytes_gone columns update.sets) (met columns update.where_terms rows) in
     let gone_is : gone ≡ capped all_gone =
     gone_are ∙ ap (λ (ids : List ℤ). capped (sum_by (λ (i : ℤ). gone_at columns update.sets (row_of table.rows i)) ids)) is.met_are
-    ∙ ap capped (gone_total columns update.sets (λ (r : Row). Rattle.row_model.specs.Values.meets_all columns update.where_terms r) table.rows is.placed.valid.rising) in
+    ∙ ap capped (gone_total columns update.sets (λ (r : Row). meets_all columns update.where_terms r) table.rows is.placed.valid.rising) in
     let count : length rowids ≡ length (met columns update.where_terms rows) = ap length is.met_are ∙ length_map (λ (r : Row). r.rowid) (met columns update.where_terms rows) in
     let fits = side_bytes-fit (plain table) is.placed.valid in
     let low : rows_side_bytes rows ≤ LAST_COUNT = omega (arith, fits) in
@@ -176,17 +180,18 @@ vectors_after table update rowids is held short =
     let checked = checked_sets columns update is.checked in
     let valid = valid_updated (plain table) update is.placed.valid checked.sets held short in
     rows_vector_bytes-fixed columns (updated columns update rows) valid.values
-    ∙ ap (λ (n : ℕ). n * total_width (widths_of columns)) (length_map (Rattle.row_model.specs.Change.updated_row columns update) rows)
+    ∙ ap (λ (n : ℕ). n * total_width (widths_of columns)) (length_map (updated_row columns update) rows)
     ∙ sym (rows_vector_bytes-fixed columns rows is.placed.valid.values)
 
-pub refused_long : (other : Elsewhere) (table : PlacedTable) (update : Update) (long : Option Refusal) (refusal : Refusal) → long ≡ first (long_of (plain table) update) → long ≡ Some refusal →
-    Some refusal ≡ first (update_refusals other (plain table) update)
-refused_long other table update long refusal is some =
+pub refused_long : (other : Elsewhere) (table : PlacedTable) (update : Update) (long : Option Refusal) → long ≡ first (long_of (plain table) update) → is_some long ≡ true →
+    long ≡ first (update_refusals other (plain table) update)
+refused_long other table update None is some = absurd cc
+refused_long other table update (Some refusal) is some =
     let rows = updated table.schema.columns update (plain_rows table.rows) in
     let l = long_of (plain table) update in
     let v = over_vectors (other.vectors + rows_vector_bytes rows) in
     let s = over_sides (other.sides + rows_side_bytes rows) in
-    let here : first l ≡ Some refusal = sym is ∙ some in
+    let here : first l ≡ Some refusal = sym is in
     sym (first-append (l ++ v) s ∙ ap (λ o. option_or o (first s)) (first-append l v ∙ ap (λ o. option_or o (first v)) here))
 
 pub not_some : (o : Option Refusal) → is_some o ≡ false → o ≡ None

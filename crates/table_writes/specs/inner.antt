@@ -3,3 +3,4 @@ pub mod NewValues
 pub mod OneByOne
 pub mod SetColumns
 pub mod TakenGroups
+pub mod Updates

@@ -31,7 +31,8 @@ fn remove_rows(alloc: Global, table: &mut TableVersion, rowids: &[i64]) -> Resul
 pub fn delete_rows(alloc: Global, table: &mut TableVersion, plan: &Plan) -> Result<u64, Memory>
     requires plan { IsPlanFor table.old.table.schema.columns plan.now }
     ensures counted { IfOk result (λ count. count ≡ length (met table.old.table.schema.columns plan.now.select.where_terms (plain_rows table.old.table.rows))) }
-    ensures changed { OnOk result (plain table.new.table ≡ with_rows (plain table.old.table) (kept table.old.table.schema.columns (delete_with plan.now.select) (plain_rows table.old.table.rows))) }
+    ensures changed { OnOk result (plain table.new.table
+        ≡ with_rows (plain table.old.table) (kept table.old.table.schema.columns (delete_with plan.now.select) (plain_rows table.old.table.rows))) }
     ensures name { table.new.table.name ≡ table.old.table.name }
     ensures schema { table.new.table.schema ≡ table.old.table.schema }
     ensures origin { KeepsOrigin table.old table.new }

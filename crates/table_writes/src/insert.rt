@@ -113,7 +113,8 @@ fn add_group(
 ) -> Result<i64, Refusal>
     requires listed { AllByRecursion (IsStoredPlace table.old.table.schema.columns) places.now }
     requires group { IsTakenGroup table.old.table.schema.columns places.now given.now }
-    ensures refused { IfErr result (λ refusal. (first (group_refusals (elsewhere_of beside) (plain table.old.table) places.now given.now) ≡ Some refusal) ⊎ (refusal ≡ WantOfMemory)) }
+    ensures refused { IfErr result (λ refusal. (first (group_refusals (elsewhere_of beside) (plain table.old.table) places.now given.now)
+        ≡ Some refusal) ⊎ (refusal ≡ WantOfMemory)) }
     ensures welcome { OnOk result (first (group_refusals (elsewhere_of beside) (plain table.old.table) places.now given.now) ≡ None) }
     ensures added { OnOk result (plain table.new.table ≡ with_new_row (plain table.old.table) (new_row (plain table.old.table) places.now given.now)) }
     ensures rowid { IfOk result (λ made. made ≡ (new_row (plain table.old.table) places.now given.now).rowid) }
@@ -166,9 +167,12 @@ pub fn insert_rows(
 ) -> Result<i64, Refusal>
     requires checked { check_insert table.old.table.schema.columns insert.now ≡ None }
     requires formed { IsWellFormedInsert insert.now }
-    ensures grown { OnOk result (grown (elsewhere_of beside) (places_named table.old.table.schema.columns insert.now.columns) (plain table.old.table) insert.now.rows ≡ ok (plain table.new.table)) }
-    ensures last { IfOk result (λ last. last ≡ last_rowid (pos 0) (places_named table.old.table.schema.columns insert.now.columns) (plain table.old.table) insert.now.rows) }
-    ensures refused { IfErr result (λ refusal. (grown (elsewhere_of beside) (places_named table.old.table.schema.columns insert.now.columns) (plain table.old.table) insert.now.rows ≡ err refusal) ⊎ (refusal ≡ WantOfMemory)) }
+    ensures grown { OnOk result (grown (elsewhere_of beside) (places_named table.old.table.schema.columns insert.now.columns) (plain table.old.table) insert.now.rows
+        ≡ ok (plain table.new.table)) }
+    ensures last { IfOk result (λ last. last ≡ last_rowid (pos 0) (places_named table.old.table.schema.columns insert.now.columns)
+        (plain table.old.table) insert.now.rows) }
+    ensures refused { IfErr result (λ refusal. (grown (elsewhere_of beside) (places_named table.old.table.schema.columns insert.now.columns)
+        (plain table.old.table) insert.now.rows ≡ err refusal) ⊎ (refusal ≡ WantOfMemory)) }
     ensures name { table.new.table.name ≡ table.old.table.name }
     ensures schema { table.new.table.schema ≡ table.old.table.schema }
     ensures origin { KeepsOrigin table.old table.new }

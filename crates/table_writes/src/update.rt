@@ -4,16 +4,17 @@ ghost use Rattle.std.specs.List.{AllByRecursion};
 ghost use Rattle.vec_base.specs.declared.refusal.Refusal.TheVariants.{WantOfMemory};
 ghost use Rattle.row_model.specs.Change.{long_values, rows_side_bytes, update_refusals, updated, with_rows};
 ghost use Rattle.row_model.specs.Check.{check_update};
+ghost use Rattle.row_model.specs.declared.statement.Update.{Update as UpdateOf};
 ghost use Rattle.row_model.specs.RefusalOrder.{first};
 ghost use Rattle.row_model.specs.Values.{met};
 ghost use Rattle.knn_plan.specs.Plans.{IsPlanFor};
 ghost use Rattle.shadow_records.specs.PlacedTables.{plain, plain_rows};
-ghost use Rattle.table_query.specs.Met.{rowid_of};
 ghost use Rattle.table_version.specs.Versions.{KeepsOrigin};
 ghost use Rattle.table_writes.specs.Writing.{elsewhere_of, update_with};
 ghost use Rattle.table_writes.specs.inner.Capped.{capped};
 ghost use Rattle.table_writes.specs.inner.OneByOne.{one_by_one, set_one};
 ghost use Rattle.table_writes.specs.inner.SetColumns.{IsSettable};
+ghost use Rattle.table_writes.specs.inner.Updates.{IsUpdateOf};
 
 use crate::Beside;
 use crate::found::met_rowids;
@@ -35,21 +36,12 @@ fn long_refusal(rowids: &[i64], sets: &[Assign]) -> Option<Refusal>
     }
 }
 
-/// The bytes of texts and blobs after the UPDATE, with those of other tables.
-fn side_total(
-    table: &TableVersion,
-    beside: Beside,
-    plan: &Plan,
-    rowids: &[i64],
-    sets: &[Assign],
-) -> u64
-    requires plan { IsPlanFor table.now.table.schema.columns plan.now }
-    requires checked { check_update table.now.table.schema.columns (update_with plan.now.select sets.now) ≡ None }
-    requires rowids { rowids.now ≡ map rowid_of (met table.now.table.schema.columns plan.now.select.where_terms (plain_rows table.now.table.rows)) }
-    ensures { result ≡ capped (beside.sides + rows_side_bytes (updated table.now.table.schema.columns (update_with plan.now.select sets.now) (plain_rows table.now.table.rows))) }
+/// The bytes of texts and blobs after an UPDATE of the rows of these rowids, with those of other tables.
+fn side_total(table: &TableVersion, beside: Beside, rowids: &[i64], sets: &[Assign]) -> u64
+    ensures { (update : UpdateOf) → IsUpdateOf table.now.table update rowids.now sets.now →
+        result ≡ capped (beside.sides + rows_side_bytes (updated table.now.table.schema.columns update (plain_rows table.now.table.rows))) }
 {
     table.known();
-    let _plan = plan;
     let left = table
         .side_bytes()
         .saturating_sub(all_gone(table, rowids, sets));
@@ -61,14 +53,11 @@ fn side_total(
 fn update_refusal(
     table: &TableVersion,
     beside: Beside,
-    plan: &Plan,
     rowids: &[i64],
     sets: &[Assign],
 ) -> Option<Refusal>
-    requires plan { IsPlanFor table.now.table.schema.columns plan.now }
-    requires checked { check_update table.now.table.schema.columns (update_with plan.now.select sets.now) ≡ None }
-    requires rowids { rowids.now ≡ map rowid_of (met table.now.table.schema.columns plan.now.select.where_terms (plain_rows table.now.table.rows)) }
-    ensures { result ≡ first (update_refusals (elsewhere_of beside) (plain table.now.table) (update_with plan.now.select sets.now)) }
+    ensures { (update : UpdateOf) → IsUpdateOf table.now.table update rowids.now sets.now →
+        result ≡ first (update_refusals (elsewhere_of beside) (plain table.now.table) update) }
 {
     table.known();
     sets_representable(sets);
@@ -77,7 +66,7 @@ fn update_refusal(
         return long;
     }
     let vectors = beside.vectors.saturating_add(table.vector_bytes());
-    over_vectors(vectors).or(over_sides(side_total(table, beside, plan, rowids, sets)))
+    over_vectors(vectors).or(over_sides(side_total(table, beside, rowids, sets)))
 }
 
 /// Gives the row of a rowid its new values.
@@ -88,7 +77,8 @@ fn set_row(
     sets: &[Assign],
 ) -> Result<(), Memory>
     requires sets { AllByRecursion (IsSettable table.old.table.schema.columns) sets.now }
-    ensures changed { OnOk result (plain table.new.table ≡ with_rows (plain table.old.table) (set_one table.old.table.schema.columns sets.now rowid.now (plain_rows table.old.table.rows))) }
+    ensures changed { OnOk result (plain table.new.table
+        ≡ with_rows (plain table.old.table) (set_one table.old.table.schema.columns sets.now rowid.now (plain_rows table.old.table.rows))) }
     ensures name { table.new.table.name ≡ table.old.table.name }
     ensures schema { table.new.table.schema ≡ table.old.table.schema }
     ensures origin { KeepsOrigin table.old table.new }
@@ -110,7 +100,8 @@ fn set_rows(
     sets: &[Assign],
 ) -> Result<(), Memory>
     requires sets { 0 < length rowids.now → AllByRecursion (IsSettable table.old.table.schema.columns) sets.now }
-    ensures changed { OnOk result (plain table.new.table ≡ with_rows (plain table.old.table) (one_by_one (set_one table.old.table.schema.columns sets.now) rowids.now (plain_rows table.old.table.rows))) }
+    ensures changed { OnOk result (plain table.new.table
+        ≡ with_rows (plain table.old.table) (one_by_one (set_one table.old.table.schema.columns sets.now) rowids.now (plain_rows table.old.table.rows))) }
     ensures name { table.new.table.name ≡ table.old.table.name }
     ensures schema { table.new.table.schema ≡ table.old.table.schema }
     ensures origin { KeepsOrigin table.old table.new }
@@ -133,9 +124,11 @@ pub fn update_rows(
     requires plan { IsPlanFor table.old.table.schema.columns plan.now }
     requires checked { check_update table.old.table.schema.columns (update_with plan.now.select sets.now) ≡ None }
     ensures counted { IfOk result (λ count. count ≡ length (met table.old.table.schema.columns plan.now.select.where_terms (plain_rows table.old.table.rows))) }
-    ensures changed { OnOk result (plain table.new.table ≡ with_rows (plain table.old.table) (updated table.old.table.schema.columns (update_with plan.now.select sets.now) (plain_rows table.old.table.rows))) }
+    ensures changed { OnOk result (plain table.new.table
+        ≡ with_rows (plain table.old.table) (updated table.old.table.schema.columns (update_with plan.now.select sets.now) (plain_rows table.old.table.rows))) }
     ensures welcome { OnOk result (update_refusals (elsewhere_of beside) (plain table.old.table) (update_with plan.now.select sets.now) ≡ []) }
-    ensures refused { IfErr result (λ refusal. (first (update_refusals (elsewhere_of beside) (plain table.old.table) (update_with plan.now.select sets.now)) ≡ Some refusal) ⊎ (refusal ≡ WantOfMemory)) }
+    ensures refused { IfErr result (λ refusal. (first (update_refusals (elsewhere_of beside) (plain table.old.table) (update_with plan.now.select sets.now))
+        ≡ Some refusal) ⊎ (refusal ≡ WantOfMemory)) }
     ensures name { table.new.table.name ≡ table.old.table.name }
     ensures schema { table.new.table.schema ≡ table.old.table.schema }
     ensures origin { KeepsOrigin table.old table.new }
@@ -144,7 +137,7 @@ pub fn update_rows(
     let Ok(rowids) = met_rowids(alloc, table, plan) else {
         return Err(Refusal::WantOfMemory);
     };
-    if let Some(refusal) = update_refusal(table, beside, plan, rowids.as_slice(), sets.as_slice()) {
+    if let Some(refusal) = update_refusal(table, beside, rowids.as_slice(), sets.as_slice()) {
         return Err(refusal);
     }
     match set_rows(alloc, table, rowids.as_slice(), sets.as_slice()) {

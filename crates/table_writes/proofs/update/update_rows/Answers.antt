@@ -9,6 +9,7 @@ use Rattle.shadow_records.specs.PlacedTables.{plain, plain_rows}
 use Rattle.table_writes.specs.Writing.{elsewhere_of, update_with}
 use Rattle.table_writes.specs.inner.OneByOne.{one_by_one, set_one}
 use Rattle.table_writes.specs.inner.SetColumns.{IsSettable}
+use Rattle.table_writes.specs.inner.Updates.{IsUpdateOf}
 use Rattle.table_writes.proofs.OneByOneLaws.{set_all_rows}
 use Rattle.table_writes.proofs.RefusalLaws.{none_empty}
 use Rattle.table_writes.proofs.UpdateLaws.{IsUpdatable, all_settable}
@@ -20,8 +21,9 @@ set_rows-requires c =
     let columns = table.schema.columns in
     let update = update_with c.args.plan.now.select c.args.sets.now in
     let is : IsUpdatable table update c.in-Ok.rowids = record { placed = c.known.ensures; checked = c.requires.checked; met_are = c.in-Ok.ensures {u = tt} } in
+    let of : IsUpdateOf table update c.as_slice.result.now c.as_slice-2.result.now = record { checked = c.requires.checked; sets_are = sym c.as_slice-2.ensures; met_are = c.as_slice.ensures ∙ c.in-Ok.ensures {u = tt} } in
     let none : first (update_refusals (elsewhere_of c.args.beside) (plain table) update) ≡ None =
-    sym (c.update_refusal.ensures ∙ ap (λ (ss : List Assign). first (update_refusals (elsewhere_of c.args.beside) (plain table) (update_with c.args.plan.now.select ss))) c.as_slice-2.ensures) ∙ c.in_default-update_refusal.is in
+    sym (c.update_refusal.ensures update of) ∙ c.in_default-update_refusal.is in
     record {
       sets = λ some. subst (λ (ss : List Assign). AllByRecursion (IsSettable columns) ss) (sym c.as_slice-4.ensures)
           (all_settable table update c.in-Ok.rowids (elsewhere_of c.args.beside) is none (subst (λ (ids : List ℤ). 0 < length ids) c.as_slice-3.ensures some));
@@ -41,6 +43,7 @@ pub returns-in-Ok-set_rows-clause-welcome : goal.returns-in-Ok-set_rows-clause-w
 returns-in-Ok-set_rows-clause-welcome c =
     let table = c.args.table.now.table in
     let update = update_with c.args.plan.now.select c.args.sets.now in
+    let of : IsUpdateOf table update c.as_slice.result.now c.as_slice-2.result.now = record { checked = c.requires.checked; sets_are = sym c.as_slice-2.ensures; met_are = c.as_slice.ensures ∙ c.in-Ok.ensures {u = tt} } in
     let none : first (update_refusals (elsewhere_of c.args.beside) (plain table) update) ≡ None =
-    sym (c.update_refusal.ensures ∙ ap (λ (ss : List Assign). first (update_refusals (elsewhere_of c.args.beside) (plain table) (update_with c.args.plan.now.select ss))) c.as_slice-2.ensures) ∙ c.in_default-update_refusal.is in
+    sym (c.update_refusal.ensures update of) ∙ c.in_default-update_refusal.is in
     none_empty (update_refusals (elsewhere_of c.args.beside) (plain table) update) none
