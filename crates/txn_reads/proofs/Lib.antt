@@ -1,0 +1,4 @@
+pub mod OpeningLaws
+pub mod PageLaws
+pub mod ReadingLaws
+pub mod SeenLaws

@@ -1,0 +1,2 @@
+pub mod CursorPlans
+pub mod Passing
