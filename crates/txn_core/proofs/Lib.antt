@@ -1,0 +1,5 @@
+pub mod AdvanceLaws
+pub mod EndLaws
+pub mod OverLaws
+pub mod ReadTurns
+pub mod RequestLaws
