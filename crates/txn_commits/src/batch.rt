@@ -27,7 +27,7 @@ fn number_known(shelf: &Shelf, held: &Held, number: u32)
 }
 
 /// The versions of a catalog are valid tables whose rows have sound places. The call does nothing: its clause is all that it gives.
-fn all_known(shelf: &Shelf, held: &Held)
+pub fn versions_known(shelf: &Shelf, held: &Held)
     ensures { ArePlaced (shown shelf.now held.now.places) }
 {
     let _first = held.places[0];
@@ -53,8 +53,8 @@ pub(crate) fn keep<K: Keeper>(
     ensures count { K.faults keeper.old ≤ K.faults keeper.new }
     ensures failed { result ≡ Failed → Rose (K.faults keeper.old) (K.faults keeper.new) }
 {
-    all_known(shelf, old);
-    all_known(shelf, next);
+    versions_known(shelf, old);
+    versions_known(shelf, next);
     match shelf.changes(alloc, old, next) {
         Ok(batch) => keeper.commit(&batch),
         Err(Memory) => Kept::Memory,

@@ -4,4 +4,5 @@
 mod batch;
 mod turns;
 
+pub use batch::versions_known;
 pub use turns::finish;

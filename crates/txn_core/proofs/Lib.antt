@@ -1,4 +1,5 @@
 pub mod AdvanceLaws
+pub mod CountLaws
 pub mod EndLaws
 pub mod OverLaws
 pub mod ReadTurns

@@ -1,5 +1,5 @@
 //! The engine over a keeper.
-ghost use Rattle.std.specs.Prelude.{◌≡◌, ◌≤◌, ◌⊎◌, IsTrue, None, false, true};
+ghost use Rattle.std.specs.Prelude.{◌≡◌, ◌≤◌, ◌⊎◌, IsTrue, MatchOption, None, Some, false, true};
 ghost use Rattle.std.specs.FinMap.{get};
 ghost use Rattle.vec_base.specs.declared.refusal.Refusal.TheVariants.{WantOfMemory};
 ghost use Rattle.vec_base.specs.declared.shadow.ShadowKey.{ShadowKey as Key};
@@ -11,24 +11,28 @@ ghost use Rattle.row_model.specs.declared.request.Reply.TheVariants.{Refused};
 ghost use Rattle.row_model.specs.declared.request.Request.TheVariants.{CloseCursor, CloseSession, Execute, Fetch, OpenCursor, OpenSession};
 ghost use Rattle.row_model.specs.Valid.{IsValidState};
 ghost use Rattle.run_commits.specs.Commits.{commit_of};
+ghost use Rattle.shadow_records.specs.StandsFor.{StandsFor};
 ghost use Rattle.txn_commits.specs.Keeping.{meanings};
+ghost use Rattle.txn_core.specs.Counting.{CountsStatement, InSession};
 ghost use Rattle.txn_core.specs.Engines.{Served};
 ghost use Rattle.txn_core.specs.Free.{needs_no_memory};
+ghost use Rattle.txn_core.specs.Schemas.{seen_schema};
 ghost use Rattle.txn_reads.specs.Advancing.{advanced};
+ghost use Rattle.txn_reads.specs.Searches.{Counts};
 
 use crate::execute::execute_turn;
 use crate::requests::{
-    advance_in, close_cursor_in, close_session_of, fetch_in, open_cursor_in, page_in,
+    advance_in, close_cursor_in, close_session_of, fetch_in, open_cursor_in, page_in, schema_in,
 };
-use row_model::{Reply, Select, Statement};
+use row_model::{Reply, Schema, Select, Statement};
 use shadow_keeper::Keeper;
 use std::alloc::Global;
 use std::marker::{Model, Sync};
 use std::thread::Threads;
 use topk_merge::Gate;
-use txn_commits::finish;
+use txn_commits::{finish, versions_known};
 use txn_sessions::{Machine, Turn};
-use vec_base::Steps;
+use vec_base::{Steps, Txt};
 use version_shelf::{Held, Shelf};
 
 /// Sessions over tables, and a keeper that has the records of the committed ones. Contracts see the machine's state and the keeper.
@@ -99,6 +103,7 @@ impl<K: Keeper + Drop> Engine<K> {
         requires workers { 1 ≤ workers }
         ensures served { Served (meanings K.ended K.tells K.tables K.faults K.stopped K.moment K.stopped_since) self.old (Execute session statement) result self.new }
         ensures free { needs_no_memory statement ≡ true → commit_of self.old.state (Execute session statement) result ≡ None → answer_of self.old.state (Execute session statement) ≡ (result, self.new.state) }
+        ensures counts { InSession self.old.state session (λ s. CountsStatement self.old.state s statement workers result steps.old steps.new) }
     {
         let turn = execute_turn(
             rt,
@@ -127,6 +132,7 @@ impl<K: Keeper + Drop> Engine<K> {
         requires workers { 1 ≤ workers }
         ensures served { Served (meanings K.ended K.tells K.tables K.faults K.stopped K.moment K.stopped_since) self.old (OpenCursor session select) result self.new }
         ensures free { is_nearest select.where_terms ≡ false → answer_of self.old.state (OpenCursor session select) ≡ (result, self.new.state) }
+        ensures counts { InSession self.old.state session (λ s. Counts self.old.state s select workers result steps.old steps.new) }
     {
         let turn = Turn::Answered(open_cursor_in(
             rt,
@@ -173,17 +179,27 @@ impl<K: Keeper + Drop> Engine<K> {
         finish(self.alloc, &mut self.machine, &mut self.keeper, turn)
     }
 
-    /// The state is a valid one. The call does nothing: its clause is all that it gives.
-    pub fn known(&self)
-        ensures { IsValidState self.now.state }
+    /// The schema of the table of a name that a session sees; none where the session is not open, or sees no such table.
+    pub fn schema(&self, session: u32, table: &Txt) -> Option<&Schema>
+        ensures { MatchOption result (seen_schema self.now.state session table.now ≡ None) (λ schema. seen_schema self.now.state session table.now ≡ Some schema.now) }
     {
-        let _commits = self.machine.commits;
+        schema_in(&self.machine, session, table)
     }
 
-    /// Gives the keeper back.
-    pub fn finish(self) -> K
-        ensures { result ≡ self.keeper }
+    /// The state is a valid one, and the keeper's records stand for the committed tables. The call does nothing: its clauses are all that it gives.
+    pub fn known(&self)
+        ensures valid { IsValidState self.now.state }
+        ensures stands { IsTrue (K.tells self.now.keeper) → StandsFor (K.tables self.now.keeper) self.now.state.catalog }
     {
+        versions_known(&self.machine.shelf, &self.machine.held);
+    }
+
+    /// Gives the keeper back. Its records stand for the committed tables.
+    pub fn finish(self) -> K
+        ensures keeper { result ≡ self.keeper }
+        ensures stands { IsTrue (K.tells result) → StandsFor (K.tables result) self.state.catalog }
+    {
+        versions_known(&self.machine.shelf, &self.machine.held);
         self.keeper
     }
 }

@@ -5,9 +5,12 @@ ghost use Rattle.row_model.specs.WellFormed.{IsWellFormed};
 ghost use Rattle.row_model.specs.Step.{answer_of};
 ghost use Rattle.row_model.specs.declared.request.Request.TheVariants.{Execute};
 ghost use Rattle.row_model.specs.declared.statement.Statement.TheVariants.{Explain, Select};
+ghost use Rattle.txn_core.specs.Counting.{CountsStatement, InSession};
 ghost use Rattle.txn_core.specs.Free.{needs_no_memory};
+ghost use Rattle.txn_core.specs.inner.CountedTurns.{MeetsTurn};
+ghost use Rattle.txn_reads.specs.Searches.{Counts};
 ghost use Rattle.txn_sessions.specs.Lookups.{IsAt};
-ghost use Rattle.txn_sessions.specs.Seen.{state_of};
+ghost use Rattle.txn_sessions.specs.Seen.{session_at, state_of};
 ghost use Rattle.txn_sessions.specs.Sound.{IsSound};
 ghost use Rattle.txn_sessions.specs.Takes.{executed_at};
 ghost use Rattle.txn_sessions.specs.Turns.{TurnsTo, TurnsToOrWants};
@@ -38,7 +41,8 @@ fn select_turn<G: Gate, R: Threads + Sync>(
     requires at { at < length machine.old.sessions.items }
     requires formed { IsWellFormed (Select statement) }
     requires workers { 1 ≤ workers }
-    ensures { TurnsToOrWants machine.old (executed_at machine.old at (Select statement)) result machine.new }
+    ensures turn { TurnsToOrWants machine.old (executed_at machine.old at (Select statement)) result machine.new }
+    ensures counts { MeetsTurn (λ reply. Counts (state_of machine.old) (session_at machine.old at) statement workers reply steps.old steps.new) result }
 {
     Turn::Answered(select(rt, alloc, machine, at, statement, workers, gate, steps))
 }
@@ -107,7 +111,8 @@ fn execute_other<G: Gate, R: Threads + Sync>(
     requires formed { IsWellFormed statement }
     requires other { needs_no_memory statement ≡ false }
     requires workers { 1 ≤ workers }
-    ensures { TurnsToOrWants machine.old (executed_at machine.old at statement) result machine.new }
+    ensures turn { TurnsToOrWants machine.old (executed_at machine.old at statement) result machine.new }
+    ensures counts { MeetsTurn (λ reply. CountsStatement (state_of machine.old) (session_at machine.old at) statement workers reply steps.old steps.new) result }
 {
     match statement {
         Statement::Create(name, schema) => create(machine, alloc, at, name, schema),
@@ -140,6 +145,7 @@ fn execute_at<G: Gate, R: Threads + Sync>(
     requires workers { 1 ≤ workers }
     ensures turn { TurnsToOrWants machine.old (executed_at machine.old at statement) result machine.new }
     ensures free { needs_no_memory statement ≡ true → TurnsTo machine.old (executed_at machine.old at statement) result machine.new }
+    ensures counts { MeetsTurn (λ reply. CountsStatement (state_of machine.old) (session_at machine.old at) statement workers reply steps.old steps.new) result }
 {
     if is_free(&statement) {
         return execute_free(machine, at, statement);
@@ -164,6 +170,7 @@ pub(crate) fn execute_turn<G: Gate, R: Threads + Sync>(
     requires workers { 1 ≤ workers }
     ensures turn { TurnsToOrWants machine.old (answer_of (state_of machine.old) (Execute session statement)) result machine.new }
     ensures free { needs_no_memory statement ≡ true → TurnsTo machine.old (answer_of (state_of machine.old) (Execute session statement)) result machine.new }
+    ensures counts { MeetsTurn (λ reply. InSession (state_of machine.old) session (λ s. CountsStatement (state_of machine.old) s statement workers reply steps.old steps.new)) result }
 {
     match machine.place_of(session) {
         Some(at) => execute_at(rt, alloc, machine, at, statement, workers, gate, steps),

@@ -1,5 +1,5 @@
 //! Requests other than statements.
-ghost use Rattle.std.specs.Prelude.{◌≡◌, ◌≤◌, ◌⊎◌, false};
+ghost use Rattle.std.specs.Prelude.{◌≡◌, ◌≤◌, ◌⊎◌, false, MatchOption, None, Some};
 ghost use Rattle.vec_base.specs.declared.refusal.Refusal.TheVariants.{WantOfMemory};
 ghost use Rattle.row_model.specs.Check.{is_nearest};
 ghost use Rattle.row_model.specs.Machine.{cursor_of, on_session};
@@ -7,19 +7,22 @@ ghost use Rattle.row_model.specs.Step.{answer_of};
 ghost use Rattle.row_model.specs.WellFormed.{IsWellFormedSelect};
 ghost use Rattle.row_model.specs.declared.request.Reply.TheVariants.{Refused};
 ghost use Rattle.row_model.specs.declared.request.Request.TheVariants.{CloseCursor, CloseSession, Fetch, OpenCursor};
+ghost use Rattle.txn_core.specs.Counting.{InSession};
+ghost use Rattle.txn_core.specs.Schemas.{seen_schema};
 ghost use Rattle.txn_reads.specs.Advancing.{advanced};
+ghost use Rattle.txn_reads.specs.Searches.{Counts};
 ghost use Rattle.txn_sessions.specs.Seen.{state_of};
 ghost use Rattle.txn_sessions.specs.Sound.{IsSound};
 ghost use Rattle.txn_sessions.specs.Takes.{Takes, TakesOrWants};
 
-use row_model::{Reply, Select};
+use row_model::{Reply, Schema, Select};
 use std::alloc::Global;
 use std::marker::Sync;
 use std::thread::Threads;
 use topk_merge::Gate;
-use txn_reads::{advance, fetch, open_cursor, page};
+use txn_reads::{advance, fetch, open_cursor, page, schema_seen};
 use txn_sessions::Machine;
-use vec_base::{Refusal, Steps};
+use vec_base::{Refusal, Steps, Txt};
 
 /// Closes the session of an id.
 pub(crate) fn close_session_of(machine: &mut Machine, session: u32) -> Reply
@@ -48,6 +51,7 @@ pub(crate) fn open_cursor_in<G: Gate, R: Threads + Sync>(
     requires workers { 1 ≤ workers }
     ensures turn { TakesOrWants machine.old (answer_of (state_of machine.old) (OpenCursor session select)) result machine.new }
     ensures free { is_nearest select.where_terms ≡ false → Takes machine.old (answer_of (state_of machine.old) (OpenCursor session select)) result machine.new }
+    ensures counts { InSession (state_of machine.old) session (λ s. Counts (state_of machine.old) s select workers result steps.old steps.new) }
 {
     match machine.place_of(session) {
         Some(at) => open_cursor(rt, alloc, machine, at, select, workers, gate, steps),
@@ -109,4 +113,12 @@ pub(crate) fn close_cursor_in(machine: &mut Machine, session: u32, cursor: u32) 
         Some(at) => machine.close_cursor(at, cursor),
         None => Reply::Refused(Refusal::NoSession),
     }
+}
+
+/// The schema of the table of the name that the session of an id sees.
+pub(crate) fn schema_in<'a>(machine: &'a Machine, session: u32, table: &Txt) -> Option<&'a Schema>
+    ensures { MatchOption result (seen_schema (state_of machine.now) session table.now ≡ None) (λ schema. seen_schema (state_of machine.now) session table.now ≡ Some schema.now) }
+{
+    let at = machine.place_of(session)?;
+    schema_seen(machine, at, table)
 }

@@ -1,3 +1,4 @@
+pub mod CountLaws
 pub mod OpeningLaws
 pub mod PageLaws
 pub mod ReadingLaws

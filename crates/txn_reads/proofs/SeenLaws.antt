@@ -1,11 +1,15 @@
 -- The table of a name that a session sees.
-use Rattle.std.proofs.Common.{◌≡◌, ◌≤◌, ◌-◌, ℕ, zero, suc, List, get_or, Some, None, sym, ap, ◌∙◌, subst, arith}
+use Rattle.std.proofs.Common.{◌≡◌, ◌≤◌, ◌-◌, ℕ, zero, suc, List, get_or, Some, None, option_map, sym, ap, ◌∙◌, subst, arith}
 use Rattle.std.proofs.Math.ListN.{get_or-map}
 use Rattle.row_model.specs.Change.{table_named}
 use Rattle.row_model.specs.Step.{found}
 use Rattle.row_model.specs.declared.row.Catalog.{Catalog}
+use Rattle.row_model.specs.declared.row.Named.{Named}
+use Rattle.row_model.specs.declared.row.Table.{Table}
+use Rattle.row_model.specs.declared.schema.Schema.{Schema}
 use Rattle.shadow_records.specs.PlacedTables.{plain}
 use Rattle.table_version.specs.Versions.{VersionState}
+use Rattle.txn_reads.specs.SeenSchemas.{schema_found}
 use Rattle.txn_reads.specs.SeenTables.{IsSeen}
 use Rattle.txn_sessions.specs.Seen.{Versions, held_seen, session_at, state_of, version_at}
 use Rattle.txn_sessions.specs.declared.machine.Machine.{Machine}
@@ -42,12 +46,22 @@ seen_table machine at name held number version is low high found_is lent =
         same = here.from.same ∙ ap (λ (v : VersionState). plain v.table) (version-is name machine.shelf (held_seen machine at).places number version here given);
       }
 
+-- ---- its schema
+
+pub schema_of_seen : (machine : Machine) (at : ℕ) (name : List ℕ) (number : ℕ) (version : VersionState) (schema : Schema) → IsSeen machine at name number version → schema ≡ version.table.schema →
+    schema_found name (state_of machine) (session_at machine at) ≡ Some schema
+schema_of_seen machine at name number version schema seen is =
+    ap (option_map (λ (n : Named). n.table.schema)) seen.is ∙ ap (λ (t : Table). Some t.schema) seen.same ∙ ap (λ (s : Schema). Some s) (sym is)
+
+pub schema_nowhere : (machine : Machine) (at : ℕ) (name : List ℕ) → found name (state_of machine) (session_at machine at) ≡ None → schema_found name (state_of machine) (session_at machine at) ≡ None
+schema_nowhere machine at name none = ap (option_map (λ (n : Named). n.table.schema)) none
+
 -- ---- the version that the shelf lends
 
 pub version-lent : (shelf : Versions) (held : Held) (number : ℕ) → 1 ≤ number → version_at shelf held number ≡ at_place shelf (get_or held.places (number - 1) None)
 version-lent shelf held number low = under-is (shown shelf held.places) number low ∙ get_or-map (at_place shelf) held.places (number - 1) None
 
-some-is : {A : Type 0} (a b : A) → Some a ≡ Some b → a ≡ b
+pub some-is : {A : Type 0} (a b : A) → Some a ≡ Some b → a ≡ b
 some-is a b h = cc
 
 none-is : {A B : Type 0} (a : A) → Some a ≡ None → B

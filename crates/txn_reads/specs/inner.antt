@@ -1,2 +1,3 @@
 pub mod CursorPlans
 pub mod Passing
+pub mod TableSearches

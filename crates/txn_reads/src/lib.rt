@@ -9,3 +9,4 @@ mod seen;
 pub use opening::open_cursor;
 pub use pages::{advance, fetch, page};
 pub use reading::{explain, select};
+pub use seen::schema_seen;

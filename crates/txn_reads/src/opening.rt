@@ -10,7 +10,8 @@ ghost use Rattle.row_model.specs.declared.request.Reply.TheVariants.{Refused};
 ghost use Rattle.row_model.specs.declared.request.Shape.TheVariants.{Nearest};
 ghost use Rattle.shadow_records.specs.PlacedTables.{plain};
 ghost use Rattle.snapshot_cursor.specs.Left.{rows_left};
-ghost use Rattle.txn_reads.specs.Searches.{Counts, CountsSearch};
+ghost use Rattle.txn_reads.specs.Searches.{Counts};
+ghost use Rattle.txn_reads.specs.inner.TableSearches.{CountsSearch};
 ghost use Rattle.txn_sessions.specs.Lookups.{IsAt};
 ghost use Rattle.txn_reads.specs.inner.CursorPlans.{IsPrepared, rows_by};
 ghost use Rattle.txn_sessions.specs.Seen.{Versions, rows_over, session_at, state_of, version_at};
@@ -108,12 +109,13 @@ fn open_over<G: Gate, R: Threads + Sync>(
     requires workers { 1 ≤ workers }
     ensures turn { TakesOrWants machine.old (cursor_opened plan.select (state_of machine.old) (session_at machine.old at) (found plan.select.table (state_of machine.old) (session_at machine.old at))) result machine.new }
     ensures free { (plan.shape ≡ Nearest → ⊥) → Takes machine.old (cursor_opened plan.select (state_of machine.old) (session_at machine.old at) (found plan.select.table (state_of machine.old) (session_at machine.old at))) result machine.new }
-    ensures counts { Counts machine.old at plan.select workers result steps.old steps.new }
+    ensures counts { Counts (state_of machine.old) (session_at machine.old at) plan.select workers result steps.old steps.new }
 {
     let held = machine.seen(at);
     let Some(version) = machine.shelf.version(&held, number) else {
         unreachable!();
     };
+    version.known();
     match cursor_over(rt, alloc, version, &plan, workers, gate, steps) {
         Ok(cursor) => machine.open_cursor(at, cursor, origin_of(held, number, plan)),
         Err(Memory) => Reply::Refused(Refusal::WantOfMemory),
@@ -137,7 +139,7 @@ pub fn open_cursor<G: Gate, R: Threads + Sync>(
     requires workers { 1 ≤ workers }
     ensures turn { TakesOrWants machine.old (cursor_opened select (state_of machine.old) (session_at machine.old at) (found select.table (state_of machine.old) (session_at machine.old at))) result machine.new }
     ensures free { is_nearest select.where_terms ≡ false → Takes machine.old (cursor_opened select (state_of machine.old) (session_at machine.old at) (found select.table (state_of machine.old) (session_at machine.old at))) result machine.new }
-    ensures counts { Counts machine.old at select workers result steps.old steps.new }
+    ensures counts { Counts (state_of machine.old) (session_at machine.old at) select workers result steps.old steps.new }
 {
     match prepared(machine, at, select) {
         Ok((number, plan)) => {

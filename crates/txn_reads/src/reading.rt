@@ -9,7 +9,8 @@ ghost use Rattle.row_model.specs.WellFormed.{IsWellFormedSelect};
 ghost use Rattle.row_model.specs.declared.request.Reply.TheVariants.{Refused};
 ghost use Rattle.row_model.specs.declared.request.Shape.TheVariants.{Nearest};
 ghost use Rattle.shadow_records.specs.PlacedTables.{plain};
-ghost use Rattle.txn_reads.specs.Searches.{Counts, CountsSearch};
+ghost use Rattle.txn_reads.specs.Searches.{Counts};
+ghost use Rattle.txn_reads.specs.inner.TableSearches.{CountsSearch};
 ghost use Rattle.txn_sessions.specs.Seen.{session_at, state_of};
 
 use crate::seen::{plan_over, seen_table};
@@ -61,7 +62,7 @@ pub fn select<G: Gate, R: Threads + Sync>(
     requires formed { IsWellFormedSelect select }
     requires workers { 1 ≤ workers }
     ensures reply { (selected select (state_of machine.now) (found select.table (state_of machine.now) (session_at machine.now at)) ≡ (result, state_of machine.now)) ⊎ (result ≡ Refused WantOfMemory) }
-    ensures counts { Counts machine.now at select workers result steps.old steps.new }
+    ensures counts { Counts (state_of machine.now) (session_at machine.now at) select workers result steps.old steps.new }
 {
     let Some(seen) = seen_table(machine, at, &select.table) else {
         return Reply::Refused(Refusal::NoTable);

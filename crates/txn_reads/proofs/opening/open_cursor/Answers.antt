@@ -4,6 +4,7 @@ use Rattle.row_model.specs.declared.statement.Select.{Select}
 use Rattle.txn_reads.proofs.OpeningLaws.{opening-of}
 use Rattle.txn_reads.proofs.ReadingLaws.{plain-planned}
 use Rattle.txn_reads.specs.Searches.{Counts}
+use Rattle.txn_sessions.specs.Seen.{session_at, state_of}
 use Rattle.txn_sessions.specs.Takes.{Takes}
 use Rattle.txn_reads.proofs.opening.open_cursor.Goals as goal
 
@@ -16,4 +17,4 @@ returns-in-Ok-clause-free g c plain =
 
 pub returns-in-Ok-clause-counts : goal.returns-in-Ok-clause-counts
 returns-in-Ok-clause-counts g c =
-    subst (λ (s : Select). Counts c.args.machine.now c.args.at s c.args.workers c.open_over.result c.args.steps.now c.open_over.new.steps) c.in-Ok.ensures.select c.open_over.ensures.counts
+    subst (λ (s : Select). Counts (state_of c.args.machine.now) (session_at c.args.machine.now c.args.at) s c.args.workers c.open_over.result c.args.steps.now c.open_over.new.steps) c.in-Ok.ensures.select c.open_over.ensures.counts

@@ -3,13 +3,14 @@ use Rattle.knn_plan.specs.Plans.{IsPlanFor}
 use Rattle.row_model.specs.Answer.{answer}
 use Rattle.row_model.specs.declared.request.Reply.{Reply}
 use Rattle.row_model.specs.declared.state.State.{State}
-use Rattle.shadow_records.specs.PlacedTables.{plain}
+use Rattle.shadow_records.specs.PlacedTables.{IsPlaced, plain}
 use Rattle.snapshot_cursor.specs.Left.{rows_left}
 use Rattle.table_version.specs.Versions.{VersionState}
+use Rattle.txn_reads.proofs.CountLaws.{counts-seen}
 use Rattle.txn_reads.proofs.OpeningLaws.{opened-rows}
 use Rattle.txn_reads.proofs.ReadingLaws.{match-planned}
 use Rattle.txn_reads.proofs.SeenLaws.{lent-is, never-missing}
-use Rattle.txn_reads.specs.Searches.{CountsSearch}
+use Rattle.txn_reads.specs.inner.TableSearches.{CountsSearch}
 use Rattle.txn_reads.specs.inner.CursorPlans.{rows_by}
 use Rattle.txn_sessions.proofs.ChangeLaws.{held-seen-on}
 use Rattle.txn_sessions.specs.Seen.{rows_over, version_at}
@@ -77,16 +78,13 @@ returns-in-Ok-clause-free g c other =
     (sym (opened-rows c.args.machine.now c.args.at c.args.number c.args.plan prepared (rows_left c.in-Ok.cursor (rows_over shelf c.origin_of.result)) rows)) c.open_cursor.ensures
 
 pub returns-in-Ok-clause-counts : goal.returns-in-Ok-clause-counts
-returns-in-Ok-clause-counts g c answered nearest =
+returns-in-Ok-clause-counts g c answered nearest named is =
     let prepared = c.requires.prepared in
     let shelf = c.args.machine.now.shelf in
     let there : version_at shelf c.seen-held.result c.args.number ≡ Some prepared.version = ap (λ (h : Held). version_at shelf h c.args.number) c.seen-held.ensures ∙ prepared.seen.there in
     let given : ◌≡◌ {A = Option VersionState} (Some c.in-Some.version.now) (at_place shelf (get_or c.seen-held.result.places (c.args.number - 1) None)) = search rules in
     let same = lent-is shelf c.seen-held.result c.args.number prepared.version c.in-Some.version.now prepared.seen.low there given in
-    record {
-      number = c.args.number;
-      version = prepared.version;
-      seen = prepared.seen;
-      counts = subst (λ (v : VersionState). CountsSearch v.table c.args.plan.select c.args.workers c.args.steps.now c.cursor_over.new.steps) same
-          (c.in-Ok.ensures.counts (match-planned prepared.version.table.schema.columns c.args.plan prepared.planned nearest));
-    }
+    counts-seen c.args.machine.now c.args.at c.args.plan.select c.args.workers c.args.number prepared.version c.args.steps.now c.cursor_over.new.steps prepared.seen
+    (subst (λ (v : VersionState). IsPlaced v.table) same c.known.ensures)
+    (subst (λ (v : VersionState). CountsSearch v.table c.args.plan.select c.args.workers c.args.steps.now c.cursor_over.new.steps) same
+    (c.in-Ok.ensures.counts (match-planned prepared.version.table.schema.columns c.args.plan prepared.planned nearest))) named is

@@ -5,7 +5,7 @@ use Rattle.table_version.specs.Versions.{VersionState}
 use Rattle.txn_commits.specs.Standing.{IsPlacedIn}
 use Rattle.txn_commits.proofs.StandLaws.{all_placed, one_more}
 use Rattle.version_shelf.specs.OnShelf.{at_place, shown}
-use Rattle.txn_commits.proofs.batch.all_known.Goals as goal
+use Rattle.txn_commits.proofs.batch.versions_known.Goals as goal
 
 pub loop-at-preserved : goal.loop-at-preserved
 loop-at-preserved c =

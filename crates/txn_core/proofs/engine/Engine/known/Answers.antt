@@ -1,0 +1,12 @@
+use Rattle.std.proofs.Common.{subst}
+use Rattle.std.specs.Prelude.{IsTrue}
+use Rattle.shadow_records.specs.StandsFor.{StandsFor}
+use Rattle.txn_commits.proofs.StandLaws.{stands}
+use Rattle.txn_core.specs.Engines.{At}
+use Rattle.version_shelf.specs.OnShelf.{shown}
+use Rattle.txn_core.proofs.engine.Engine.known.Goals as goal
+
+pub returns-clause-stands : goal.returns-clause-stands
+returns-clause-stands g c told =
+    subst (λ (e : At g.row.K.Denot). IsTrue (g.K.Keeper.tells e.keeper) → StandsFor (g.K.Keeper.tables e.keeper) e.state.catalog) c.self.view_is
+    (λ own. stands (g.K.Keeper.tables c.self.inside.keeper) (shown c.self.inside.machine.shelf c.self.inside.machine.held.places) c.versions_known.ensures c.self.invariant.valid.committed (c.self.invariant.holds own)) told
