@@ -1,7 +1,9 @@
 //! Inputs that are cut in any way, and faults of sources and sinks.
 
 use std::alloc::Global;
+use std::marker::Sync;
 use std::test::Fail;
+use std::thread::Threads;
 use vec_base::{Bytes, List, MemorySink, MemorySource, ReadOutcome, Sink, Source, WriteOutcome};
 use vec_shell::run;
 
@@ -22,14 +24,20 @@ fn only(alloc: Global, number: u64) -> Result<List<u64>, Fail> {
 }
 
 /// The status and the output of a run.
-fn ran(alloc: Global, word: &str, input: &[u8], setting: Setting) -> Result<(u8, Vec<u8>), Fail> {
+fn ran<R: Threads + Sync>(
+    rt: &R,
+    alloc: Global,
+    word: &str,
+    input: &[u8],
+    setting: Setting,
+) -> Result<(u8, Vec<u8>), Fail> {
     let words = [String::from_str(alloc, word)?];
     let bytes = Bytes::from_slice(alloc, input).or(Err("no memory"))?;
     let reads = only(alloc, setting.failing_read)?;
     let writes = only(alloc, setting.failing_write)?;
     let mut source = MemorySource::new(bytes, setting.piece.max(1), reads);
     let mut sink = MemorySink::new(alloc, setting.room, writes).or(Err("no memory"))?;
-    let status = run(alloc, words.as_slice(), &mut source, &mut sink);
+    let status = run(rt, alloc, words.as_slice(), &mut source, &mut sink);
     Ok((status, sink.bytes().to_vec(alloc)?))
 }
 
@@ -42,7 +50,7 @@ const EXCHANGES: [(&str, &str); 6] = [
     ),
     (";SELECT rowid FROM v WHERE m = 'a;b'", ""),
     (" ; ", "error 8 no column at 2\n"),
-    ("COMMIT;", "error 2 unsupported form\n"),
+    ("COMMIT;", "error 4 transaction state\n"),
     ("SELECT rowid, a FROM v", "7|vec_int8('[1,2]')\nrows 1\n"),
 ];
 
@@ -71,7 +79,7 @@ fn replies_are_the_same_however_the_input_is_cut(rt: HostRuntime) -> Result<(), 
             failing_write: 0,
             room: 4096,
         };
-        let (status, out) = ran(alloc, "shell", input.as_slice(), setting)?;
+        let (status, out) = ran(&rt, alloc, "shell", input.as_slice(), setting)?;
         assert_eq!(rt; status, 2);
         assert_eq!(rt; out.as_slice(), replies.as_slice(), "{piece}");
     }
@@ -99,7 +107,7 @@ fn a_fault_leaves_the_replies_before_it(rt: HostRuntime) -> Result<(), Fail> {
             failing_write,
             room,
         };
-        let (status, out) = ran(alloc, "shell", input.as_slice(), setting)?;
+        let (status, out) = ran(&rt, alloc, "shell", input.as_slice(), setting)?;
         assert_eq!(rt; status, wanted_status);
         assert_eq!(rt; out.as_slice(), wanted.as_slice());
     }
@@ -114,7 +122,7 @@ fn other_words_are_refused(rt: HostRuntime) -> Result<(), Fail> {
         failing_write: 0,
         room: 5,
     };
-    let (status, out) = ran(rt.alloc(), "serve", b";", setting)?;
+    let (status, out) = ran(&rt, rt.alloc(), "serve", b";", setting)?;
     assert_eq!(rt; status, 1);
     assert_eq!(rt; out.as_slice(), b"error".as_slice());
     Ok(())
@@ -147,10 +155,10 @@ fn nothing_is_asked_again_after_a_fault(rt: HostRuntime) -> Result<(), Fail> {
     let bytes = Bytes::from_vec(input);
     let mut source = MemorySource::new(bytes, 64, only(alloc, 2)?);
     let mut sink = Silent { asked: 0 };
-    assert_eq!(rt; run(alloc, &words, &mut source, &mut sink), 4);
+    assert_eq!(rt; run(&rt, alloc, &words, &mut source, &mut sink), 4);
     assert_eq!(rt; sink.asked, 1);
     let mut taken = MemorySink::new(alloc, 4096, List::new(alloc)).or(Err("no memory"))?;
-    assert_eq!(rt; run(alloc, &words, &mut source, &mut taken), 3);
+    assert_eq!(rt; run(&rt, alloc, &words, &mut source, &mut taken), 3);
     let mut room = [0u8; 256];
     assert_eq!(rt; source.read(&mut room), ReadOutcome::Took(64));
     Ok(())

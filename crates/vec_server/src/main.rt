@@ -38,6 +38,6 @@ fn main(rt: HostRuntime) -> ExitCode {
     };
     let mut source = StdSource::new(rt.stdin());
     let mut sink = StdSink::new(rt.stdout());
-    let status = run(rt.alloc(), words.as_slice(), &mut source, &mut sink);
+    let status = run(&rt, rt.alloc(), words.as_slice(), &mut source, &mut sink);
     ExitCode::from(status)
 }

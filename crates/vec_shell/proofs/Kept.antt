@@ -31,14 +31,13 @@ refused_long t refusal long (inr near) = absurd (beyond t long near.0)
 
 -- a text beyond the limit gets one refusal
 too_long : (t : List ℕ) (read : Result Statement Refusal) → nat_lt MOST_TEXT_BYTES (length t) ≡ true → Reads t read → read ≡ Err (Syntax MOST_TEXT_BYTES)
-too_long t (Ok statement) long reads = absurd (beyond t long reads.0.within)
-too_long t (Err refusal) long (inr unserved) = absurd (beyond t long unserved.0.1.within)
-too_long t (Err refusal) long (inl refused) = ap (λ (z : Refusal). Err z) (refused_long t refusal long refused)
+too_long t (Ok statement) long reads = absurd (beyond t long reads.within)
+too_long t (Err refusal) long refused = ap (λ (z : Refusal). Err z) (refused_long t refusal long refused)
 
 reads_kept : (t : List ℕ) (read : Result Statement Refusal) (b : Bool) → nat_lt MOST_TEXT_BYTES (length t) ≡ b → Reads (take (MOST_TEXT_BYTES + 1) t) read → Reads t read
 reads_kept t read true long reads =
     subst (λ (z : Result Statement Refusal). Reads t z) (sym (too_long (take (MOST_TEXT_BYTES + 1) t) read (still_long MOST_TEXT_BYTES t long) reads))
-    (inl (inl (ltb-true MOST_TEXT_BYTES (length t) long, refl)))
+    (inl (ltb-true MOST_TEXT_BYTES (length t) long, refl))
 reads_kept t read false short reads = subst (λ (u : List ℕ). Reads u read) (whole_kept MOST_TEXT_BYTES t short) reads
 
 pub answers_kept : (session : ℕ) (old new : State) (t : List ℕ) (reply : Reply) →

@@ -6,4 +6,5 @@ pub mod LoopLaws
 pub mod PieceLaws
 pub mod ProgressLaws
 pub mod SentLaws
+pub mod SureSteps
 pub mod WriteLaws

@@ -2,12 +2,12 @@
 #![tactic(auto)]
 
 mod cutter;
+mod engine_session;
 mod lines;
 mod output;
-mod plain_session;
 mod printer;
-mod session;
 mod shell;
+mod sure_keeper;
 mod tally;
 mod top;
 

@@ -5,6 +5,7 @@ ghost use Rattle.vec_base.specs.Streams.{Rose};
 ghost use Rattle.row_model.specs.Shelled.{Answers, AnswersAll};
 ghost use Rattle.vec_shell.specs.declared.shell.Ending.TheVariants.{ReadFault};
 ghost use Rattle.vec_shell.specs.ShellTexts.{Reads};
+ghost use Rattle.vec_shell.specs.declared.engine_session.TheConstants.{FIRST};
 ghost use Rattle.vec_shell.specs.Runs.{IsRun, change_of};
 ghost use Rattle.vec_shell.specs.inner.Cutting.{CutterHolds};
 ghost use Rattle.vec_shell.specs.Pieces.{trim};
@@ -12,12 +13,14 @@ ghost use Rattle.vec_shell.specs.inner.Progress.{moment, AnswersPiece, TakesByte
 ghost use Rattle.vec_shell.specs.inner.LoopRuns.{LoopOutcome, StatusOf};
 
 use crate::cutter::Cutter;
+use crate::engine_session::EngineSession;
 use crate::output::Output;
 use crate::printer::write_reply;
-use crate::session::Session;
 use crate::tally::Tally;
 use row_model::Reply;
 use std::alloc::Global;
+use std::marker::Sync;
+use std::thread::Threads;
 use vec_base::{Memory, ReadOutcome, Refusal, Sink, Source};
 
 /// How many bytes are asked of the source at once.
@@ -32,64 +35,64 @@ pub enum Ending {
 }
 
 /// A session, and what has been read of the next statement.
-pub(crate) struct Shell<Z: Session> {
-    session: Z,
+pub(crate) struct Shell {
+    session: EngineSession,
     cutter: Cutter,
     tally: Tally,
     output: Output,
 }
 
 /// The reply to the piece, which is a text.
-fn reply_to<Z: Session>(session: &mut Z, cutter: &Cutter) -> Reply
-    ensures { (piece : List ℕ) → CutterHolds cutter.now piece → Answers Reads Z.id (Z.state session.old) (trim piece) result (Z.state session.new) }
+fn reply_to<R: Threads + Sync>(rt: &R, session: &mut EngineSession, cutter: &Cutter) -> Reply
+    ensures { (piece : List ℕ) → CutterHolds cutter.now piece → Answers Reads FIRST session.old.engine.state (trim piece) result session.new.engine.state }
 {
     if cutter.lost {
         return Reply::Refused(Refusal::WantOfMemory);
     }
-    session.answer(cutter.text.as_slice())
+    session.answer(rt, cutter.text.as_slice())
 }
 
-impl<Z: Session> Shell<Z> {
+impl Shell {
     /// Answers the piece as it stands, if it is a text. Answers whether the sink took the reply.
-    fn answer_piece<O: Sink>(&mut self, sink: &mut O) -> bool
-        ensures { AnswersPiece Z.id result
-            (moment (Z.state self.old.session) self.old.cutter self.old.tally (O.taken sink.old) (O.faults sink.old))
-            (moment (Z.state self.new.session) self.new.cutter self.new.tally (O.taken sink.new) (O.faults sink.new)) }
+    fn answer_piece<R: Threads + Sync, O: Sink>(&mut self, rt: &R, sink: &mut O) -> bool
+        ensures { AnswersPiece FIRST result
+            (moment self.old.session.engine.state self.old.cutter self.old.tally (O.taken sink.old) (O.faults sink.old))
+            (moment self.new.session.engine.state self.new.cutter self.new.tally (O.taken sink.new) (O.faults sink.new)) }
     {
         if self.cutter.is_blank() {
             self.cutter.begin();
             return true;
         }
-        let reply = reply_to(&mut self.session, &self.cutter);
+        let reply = reply_to(rt, &mut self.session, &self.cutter);
         self.tally.count(&reply);
         self.cutter.begin();
         write_reply(&mut self.output, sink, &reply)
     }
 
     /// Takes a byte, and answers the text that it ends. Answers whether the sink took the reply.
-    fn take_byte<O: Sink>(&mut self, sink: &mut O, byte: u8) -> bool
-        ensures { TakesBytes Z.id (byte ∷ []) result
-            (moment (Z.state self.old.session) self.old.cutter self.old.tally (O.taken sink.old) (O.faults sink.old))
-            (moment (Z.state self.new.session) self.new.cutter self.new.tally (O.taken sink.new) (O.faults sink.new)) }
+    fn take_byte<R: Threads + Sync, O: Sink>(&mut self, rt: &R, sink: &mut O, byte: u8) -> bool
+        ensures { TakesBytes FIRST (byte ∷ []) result
+            (moment self.old.session.engine.state self.old.cutter self.old.tally (O.taken sink.old) (O.faults sink.old))
+            (moment self.new.session.engine.state self.new.cutter self.new.tally (O.taken sink.new) (O.faults sink.new)) }
     {
         if self.cutter.ends(byte) {
-            return self.answer_piece(sink);
+            return self.answer_piece(rt, sink);
         }
         self.cutter.add(byte);
         true
     }
 
     /// Takes bytes, and answers each text that they end. Answers whether the sink took all replies.
-    fn take_bytes<O: Sink>(&mut self, sink: &mut O, bytes: &[u8]) -> bool
-        ensures { TakesBytes Z.id bytes.now result
-            (moment (Z.state self.old.session) self.old.cutter self.old.tally (O.taken sink.old) (O.faults sink.old))
-            (moment (Z.state self.new.session) self.new.cutter self.new.tally (O.taken sink.new) (O.faults sink.new)) }
+    fn take_bytes<R: Threads + Sync, O: Sink>(&mut self, rt: &R, sink: &mut O, bytes: &[u8]) -> bool
+        ensures { TakesBytes FIRST bytes.now result
+            (moment self.old.session.engine.state self.old.cutter self.old.tally (O.taken sink.old) (O.faults sink.old))
+            (moment self.new.session.engine.state self.new.cutter self.new.tally (O.taken sink.new) (O.faults sink.new)) }
     {
         let mut at = 0;
         while at < bytes.len() {
             at += self.cutter.add_run(&bytes[at..]);
             if at < bytes.len() {
-                if !self.take_byte(sink, bytes[at]) {
+                if !self.take_byte(rt, sink, bytes[at]) {
                     return false;
                 }
                 at += 1;
@@ -99,30 +102,31 @@ impl<Z: Session> Shell<Z> {
     }
 
     /// Reads the source to its end, a block at a time, and answers each text.
-    fn serve<S: Source, O: Sink>(
+    fn serve<R: Threads + Sync, S: Source, O: Sink>(
         &mut self,
+        rt: &R,
         source: &mut S,
         sink: &mut O,
         block: &mut [u8],
     ) -> Ending
         requires { 0 < length block.old }
-        ensures outcome { LoopOutcome Z.id result (S.left source.old) (S.left source.new) (S.given source.old) (S.given source.new)
-            (moment (Z.state self.old.session) self.old.cutter self.old.tally (O.taken sink.old) (O.faults sink.old))
-            (moment (Z.state self.new.session) self.new.cutter self.new.tally (O.taken sink.new) (O.faults sink.new)) }
+        ensures outcome { LoopOutcome FIRST result (S.left source.old) (S.left source.new) (S.given source.old) (S.given source.new)
+            (moment self.old.session.engine.state self.old.cutter self.old.tally (O.taken sink.old) (O.faults sink.old))
+            (moment self.new.session.engine.state self.new.cutter self.new.tally (O.taken sink.new) (O.faults sink.new)) }
         ensures cause { result ≡ ReadFault → Rose (S.faults source.old) (S.faults source.new) }
     {
         'reading: loop {
             match source.read(block) {
                 ReadOutcome::Failed => return Ending::ReadFault,
                 ReadOutcome::End => {
-                    return if self.answer_piece(sink) {
+                    return if self.answer_piece(rt, sink) {
                         Ending::Whole
                     } else {
                         Ending::WriteFault
                     };
                 }
                 ReadOutcome::Took(count) => {
-                    if !self.take_bytes(sink, &block[..count]) {
+                    if !self.take_bytes(rt, sink, &block[..count]) {
                         return Ending::WriteFault;
                     }
                 }
@@ -161,20 +165,21 @@ impl Room {
 
 /// The status of a run, and the session after it.
 #[derive(Drop)]
-pub(crate) struct Finished<Z> {
+pub(crate) struct Finished {
     pub(crate) status: u8,
-    pub(crate) session: Z,
+    pub(crate) session: EngineSession,
 }
 
 /// Answers the statements that the source gives, until its end or a fault.
-pub(crate) fn run_session<Z: Session, S: Source, O: Sink>(
+pub(crate) fn run_session<R: Threads + Sync, S: Source, O: Sink>(
+    rt: &R,
     alloc: Global,
     room: Room,
-    session: Z,
+    session: EngineSession,
     source: &mut S,
     sink: &mut O,
-) -> Finished<Z>
-    ensures ran { IsRun (AnswersAll Reads Z.id (Z.state session)) (Z.state result.session)
+) -> Finished
+    ensures ran { IsRun (AnswersAll Reads FIRST session.engine.state) result.session.engine.state
         (change_of S.left S.given O.taken source.old source.new sink.old sink.new) result.status }
     ensures read { result.status ≡ 3 → Rose (S.faults source.old) (S.faults source.new) }
     ensures write { result.status ≡ 4 → Rose (O.faults sink.old) (O.faults sink.new) }
@@ -186,7 +191,7 @@ pub(crate) fn run_session<Z: Session, S: Source, O: Sink>(
         tally: Tally::new(),
         output,
     };
-    let ending = shell.serve(source, sink, block.as_mut_slice());
+    let ending = shell.serve(rt, source, sink, block.as_mut_slice());
     let Shell {
         session,
         cutter: _,

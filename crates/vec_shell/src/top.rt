@@ -10,10 +10,12 @@ ghost use Rattle.row_model.specs.Machine.{first_state, no_tables};
 ghost use Rattle.row_model.specs.Step.{answer_of};
 ghost use Rattle.vec_shell.specs.Outcome.{is_shell, LastLine, NoneRefused, OnlyStarved, IsShellRun, IsWholeRun, SomeRefused};
 
+use crate::engine_session::{EngineSession, FIRST};
 use crate::output::write_all;
-use crate::plain_session::{FIRST, PlainSession};
 use crate::shell::{Room, run_session};
 use std::alloc::Global;
+use std::marker::Sync;
+use std::thread::Threads;
 use vec_base::{Memory, Sink, Source};
 
 fn is_shell(words: &[String]) -> bool
@@ -26,16 +28,22 @@ fn is_shell(words: &[String]) -> bool
 }
 
 /// The memory of a run, and its session.
-fn open(alloc: Global) -> Result<(Room, PlainSession), Memory>
-    ensures { IfOk result (λ opened. answer_of (first_state no_tables) OpenSession ≡ (Opened FIRST, opened.1.engine)) }
+fn open(alloc: Global) -> Result<(Room, EngineSession), Memory>
+    ensures { IfOk result (λ opened. answer_of (first_state no_tables) OpenSession ≡ (Opened FIRST, opened.1.engine.state)) }
 {
-    Ok((Room::new(alloc)?, PlainSession::open(alloc)?))
+    Ok((Room::new(alloc)?, EngineSession::open(alloc)?))
 }
 
 /// All that the program does; the words are those after its name. Answers the exit status.
 ///
 /// With the one word `shell` it reads statements from the source to its end and writes their replies to the sink.
-pub fn run<S: Source, O: Sink>(alloc: Global, words: &[String], source: &mut S, sink: &mut O) -> u8
+pub fn run<R: Threads + Sync, S: Source, O: Sink>(
+    rt: &R,
+    alloc: Global,
+    words: &[String],
+    source: &mut S,
+    sink: &mut O,
+) -> u8
     ensures words { (result ≡ 1) ↔ (is_shell (map string_bytes words.now) ≡ false) }
     ensures words_refused { is_shell (map string_bytes words.now) ≡ false → (source.new ≡ source.old)
         × LastLine (codes "error words\n") (O.taken sink.old) (O.taken sink.new) (O.faults sink.old) (O.faults sink.new) }
@@ -61,7 +69,7 @@ pub fn run<S: Source, O: Sink>(alloc: Global, words: &[String], source: &mut S, 
         return 1;
     }
     match open(alloc) {
-        Ok((room, session)) => run_session(alloc, room, session, source, sink).status,
+        Ok((room, session)) => run_session(rt, alloc, room, session, source, sink).status,
         Err(Memory) => {
             let _ = write_all(sink, b"error memory\n");
             7
