@@ -1,0 +1,2 @@
+-- inner: tables that are built one after another.
+pub mod inner
