@@ -4,3 +4,5 @@ pub mod EndLaws
 pub mod OverLaws
 pub mod ReadTurns
 pub mod RequestLaws
+pub mod LoadLaws
+pub mod StartLaws

@@ -1,1 +1,2 @@
 pub mod CountedTurns
+pub mod Reading

@@ -9,7 +9,7 @@ ghost use Rattle.row_model.specs.Step.{answer_of};
 ghost use Rattle.row_model.specs.WellFormed.{IsWellFormedRequest};
 ghost use Rattle.row_model.specs.declared.request.Reply.TheVariants.{Refused};
 ghost use Rattle.row_model.specs.declared.request.Request.TheVariants.{CloseCursor, CloseSession, Execute, Fetch, OpenCursor, OpenSession};
-ghost use Rattle.row_model.specs.Valid.{IsValidState};
+ghost use Rattle.row_model.specs.Valid.{IsValidCatalog, IsValidState};
 ghost use Rattle.run_commits.specs.Commits.{commit_of};
 ghost use Rattle.shadow_records.specs.StandsFor.{StandsFor};
 ghost use Rattle.txn_commits.specs.Keeping.{meanings};
@@ -19,6 +19,10 @@ ghost use Rattle.txn_core.specs.Free.{needs_no_memory};
 ghost use Rattle.txn_core.specs.Schemas.{seen_schema};
 ghost use Rattle.txn_reads.specs.Advancing.{advanced};
 ghost use Rattle.txn_reads.specs.Searches.{Counts};
+ghost use Rattle.txn_sessions.specs.Seen.{catalog_at};
+ghost use Rattle.txn_sessions.specs.Sound.{IsOn};
+ghost use Rattle.version_shelf.specs.OnShelf.{shown};
+ghost use Rattle.version_shelf.specs.Records.{HoldsRecords};
 
 use crate::execute::execute_turn;
 use crate::requests::{
@@ -67,6 +71,22 @@ impl<K: Keeper + Drop> Engine<K> {
         Engine {
             alloc,
             machine: Machine::new(alloc, Shelf::new(alloc), Held::none()),
+            keeper,
+        }
+    }
+
+    /// An engine with these committed tables, over a keeper that has told the end of its records and has those of the tables.
+    pub(crate) fn with_tables(alloc: Global, shelf: Shelf, held: Held, keeper: K) -> Engine<K>
+        requires on { IsOn shelf held }
+        requires valid { IsValidCatalog (catalog_at shelf held) }
+        requires ended { IsTrue (K.ended keeper) }
+        requires holds { IsTrue (K.tells keeper) → HoldsRecords (K.tables keeper) (shown shelf held.places) }
+        ensures state { result.state ≡ first_state (catalog_at shelf held) }
+        ensures keeper { result.keeper ≡ keeper }
+    {
+        Engine {
+            alloc,
+            machine: Machine::new(alloc, shelf, held),
             keeper,
         }
     }

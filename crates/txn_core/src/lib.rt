@@ -3,6 +3,9 @@
 
 mod engine;
 mod execute;
+mod load;
 mod requests;
+mod start;
 
 pub use engine::Engine;
+pub use start::Started;
