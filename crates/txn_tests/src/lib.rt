@@ -16,6 +16,8 @@ mod limits;
 #[cfg(test)]
 mod memory_engine;
 #[cfg(test)]
+mod opened;
+#[cfg(test)]
 mod places;
 #[cfg(test)]
 mod readers;
