@@ -83,7 +83,7 @@ open
 const GOES_ON: &str = "\
 1 SELECT rowid FROM w => error 21 no session
 open => session 1
-1 SELECT * FROM v => 'one'|1|X'0102'|'short'|X'01' / 'two'|2|X'0304'|'longer than twelve'|NULL / rows 2
+1 SELECT * FROM v => 'one'|1|vec_int8('[1,2]')|'short'|X'01' / 'two'|2|vec_int8('[3,4]')|'longer than twelve'|NULL / rows 2
 1 SELECT rowid FROM w => rows 0
 1 INSERT INTO w(b) VALUES (vec_bit(X'F0')) => inserted 1 last 10
 1 INSERT INTO v(id, p, a, m) VALUES ('two', 2, vec_int8('[0,0]'), '') => error 17 duplicate rowid 2
