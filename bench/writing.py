@@ -7,7 +7,7 @@ import time
 from shell import Shell
 
 WIDTH = 128
-FEW, MANY = 1_000, 200_000  # rows of the two tables
+FEW, MANY = 1_000, 198_000  # rows of the two tables; those that are inserted stay below the limit of 200,000
 CHUNK = 500  # rows that one statement inserts when a table is filled
 STATEMENTS = 400  # of one kind, in a row
 ROUNDS = 3
