@@ -1,0 +1,2 @@
+-- Bodies: what the JSON bodies of requests say.
+pub mod Bodies
