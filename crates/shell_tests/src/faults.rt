@@ -31,7 +31,10 @@ fn ran<R: Threads + Sync>(
     input: &[u8],
     setting: Setting,
 ) -> Result<(u8, Vec<u8>), Fail> {
-    let words = [String::from_str(alloc, word)?];
+    let words = [
+        String::from_str(alloc, "vec_server")?,
+        String::from_str(alloc, word)?,
+    ];
     let bytes = Bytes::from_slice(alloc, input).or(Err("no memory"))?;
     let reads = only(alloc, setting.failing_read)?;
     let writes = only(alloc, setting.failing_write)?;
@@ -150,7 +153,10 @@ impl Sink for Silent {
 #[test]
 fn nothing_is_asked_again_after_a_fault(rt: HostRuntime) -> Result<(), Fail> {
     let alloc = rt.alloc();
-    let words = [String::from_str(alloc, "shell")?];
+    let words = [
+        String::from_str(alloc, "vec_server")?,
+        String::from_str(alloc, "shell")?,
+    ];
     let (input, _) = exchanges(alloc, 0)?;
     let bytes = Bytes::from_vec(input);
     let mut source = MemorySource::new(bytes, 64, only(alloc, 2)?);
