@@ -1,0 +1,7 @@
+use Rattle.std.proofs.lemmas.Result.{on_ok_weaker}
+use Rattle.http_replies.proofs.body.put_all_rows.Goals as goal
+
+pub returns-clause-added : goal.returns-clause-added
+returns-clause-added g c =
+    let rows = rw c.as_slice.ensures at c.in_ok-put_rows.ensures.added in
+    on_ok_weaker c.put-2.result (g.met.W.Takes.both _ _ _ _ _ (g.met.W.Takes.both _ _ _ _ _ c.in_ok-put.ensures.added rows)) c.put-2.ensures.added

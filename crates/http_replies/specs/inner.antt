@@ -1,0 +1,3 @@
+pub mod Rooms
+pub mod Phrases
+pub mod Plain
