@@ -1,0 +1,5 @@
+//! Tests of the heads that connections give.
+#![tactic(auto)]
+
+#[cfg(test)]
+mod heads;

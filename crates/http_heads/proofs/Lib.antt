@@ -1,0 +1,2 @@
+mod FillLaws
+mod HeadLaws
