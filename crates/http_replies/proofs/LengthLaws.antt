@@ -10,7 +10,6 @@ use Rattle.vec_base.specs.Words.{unsupported_words}
 use Rattle.vec_base.specs.declared.refusal.Refusal.{Refusal}
 use Rattle.vec_base.specs.declared.refusal.Refusal.TheVariants.{Syntax, Unsupported, Parameter, TxnState, NoTable, TableExists, BadSchema, NoColumn, WrongType, VectorShape, NotNull, FixedColumn, KRange, KnnForm, Busy, OldSnapshot, Duplicate, RowidsSpent, Full, NoSavepoint, NoSession, NoCursor, TooManyRows, StoreFault, WantOfMemory}
 use Rattle.vec_text.specs.RefusalTexts.{counted, signed_counted, unsupported_word, refusal_text}
-use Rattle.row_model.specs.declared.request.Reply.{Reply}
 use Rattle.row_model.specs.declared.request.Reply.TheVariants.{Inserted, Changed, Planned, Session, Cursor, Refused}
 use Rattle.row_model.specs.declared.request.Shape.{Shape}
 use Rattle.row_model.specs.declared.request.Shape.TheVariants.{Point, Scan, Nearest}

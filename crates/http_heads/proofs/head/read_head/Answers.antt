@@ -1,10 +1,10 @@
-use Rattle.std.proofs.Common.{rules, ◌≡◌, ◌≢◌, ◌+◌, ◌-◌, ◌<◌, ◌≤◌, ℕ, List, [], ◌++◌, ◌∙◌, length, take, arith, inl, inr, ap}
+use Rattle.std.proofs.Common.{◌+◌, ◌-◌, ◌∙◌, length, arith, inl, inr}
 use Rattle.std.proofs.lemmas.List.{length-take-le}
 use borrow.Rule.Slice.PartMut.{put_mid}
 use Rattle.vec_base.proofs.StreamLaws.{loses-append}
 use Rattle.http_heads.specs.declared.head.Head.TheVariants as head
 use Rattle.http_heads.proofs.FillLaws.{filled_by, same_length, some_bytes}
-use Rattle.http_heads.proofs.HeadLaws.{at_end, for_all, none_at_end, none_in_room, too_many, whole_head}
+use Rattle.http_heads.proofs.HeadLaws.{for_all, none_in_room, too_many, whole_head}
 use Rattle.http_heads.proofs.head.read_head.Goals as goal
 
 pub returns-in-Ok-Complete-clause-took : goal.returns-in-Ok-Complete-clause-took

@@ -1,4 +1,4 @@
-use Rattle.std.proofs.Common.{ℕ, List, [], map, get_or, ◌∙◌, ap}
+use Rattle.std.proofs.Common.{ℕ, [], map, get_or, ◌∙◌, ap}
 use Rattle.http_replies.specs.declared.escape.TheConstants.{CONTROLS}
 use Rattle.http_replies.proofs.EscapeLaws.{control_at}
 use Rattle.http_replies.proofs.escape.control.Goals as goal
