@@ -1,2 +1,2 @@
 mod FillLaws
-mod HeadLaws
+pub mod HeadLaws

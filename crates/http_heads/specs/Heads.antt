@@ -2,7 +2,7 @@
 use Rattle.std.specs.Prelude.{◌≡◌, ◌≢◌, ◌≤◌, ℕ, List, [], length, None, Some, ⊤}
 use Rattle.std.specs.declared.option.Option.{Option}
 use Rattle.httparse.specs.Grammar.{RequestHead, ReadsRequest, print_request}
-use Rattle.httparse.specs.Spans.{IsRequestOf}
+use Rattle.httparse.specs.Spans.{IsRequestOf, IsRequestWithin}
 use Rattle.httparse.specs.declared.spans.HeaderSpan.{HeaderSpan}
 use Rattle.vec_base.specs.Streams.{Rose}
 use Rattle.http_heads.specs.declared.head.Head.{Head}
@@ -38,9 +38,9 @@ filled_of (head.Bad filled) = filled
 filled_of head.Empty = 0
 filled_of (head.Lost filled) = filled
 
--- the spans of a whole head are those of a head at the front of the bytes that were read
+-- the spans of a whole head lie in the bytes that were read, and are those of a head at their front
 abbrev pub Holds : List ℕ → List HeaderSpan → Head → Type 0
-Holds front headers (head.Whole filled spans) = IsRequestOf front headers spans
+Holds front headers (head.Whole filled spans) = IsRequestWithin front headers spans × IsRequestOf front headers spans
 Holds front headers (head.Bad filled) = ⊤
 Holds front headers head.Empty = ⊤
 Holds front headers (head.Lost filled) = ⊤

@@ -1,7 +1,7 @@
 //! Reading the head of a request.
 ghost use Rattle.std.specs.Prelude.{◌≡◌, ◌≤◌, true, length, take};
 ghost use Rattle.vec_base.specs.Streams.{Loses};
-ghost use Rattle.http_link.specs.Links.{left_on, coming_on, sent_on};
+ghost use Rattle.http_link.specs.Links.{left_on, coming_on, sent_on, risen_on, risen_by, has_risen};
 ghost use Rattle.http_heads.specs.Heads.{HeadOf, Holds, IfTold, filled_of, LostBy};
 
 use http_link::Link;
@@ -37,6 +37,7 @@ pub fn read_head<L: Link>(link: &mut L, buffer: &mut [u8], headers: &mut [Header
     ensures exact { IfTold (left_on (L.told link.old)) result }
     ensures coming { coming_on (L.told link.new) ≡ coming_on (L.told link.old) }
     ensures sent { sent_on (L.told link.new) ≡ sent_on (L.told link.old) }
+    ensures risen { risen_on (L.told link.new) ≡ risen_by (has_risen (L.faults link.old) (L.faults link.new)) (risen_on (L.told link.old)) }
     ensures later { L.faults link.old ≤ L.faults link.new }
     ensures lost { LostBy (L.faults link.old) result (L.faults link.new) }
 {

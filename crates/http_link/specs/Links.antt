@@ -1,5 +1,5 @@
 -- What a link tells, and what its calls do to that.
-use Rattle.std.specs.Prelude.{◌≡◌, ℕ, ◌+◌, ◌≤◌, ◌||◌, min, nat_le, Bool, true, false, List, [], ◌∷◌, ◌++◌, length, take, ⊤, None, Some}
+use Rattle.std.specs.Prelude.{◌≡◌, ℕ, ◌+◌, ◌≤◌, ◌⊎◌, ◌||◌, min, nat_le, Bool, true, false, List, [], ◌∷◌, ◌++◌, length, take, ⊤, None, Some}
 use Rattle.std.specs.Option.{option_map}
 use Rattle.std.specs.declared.option.Option.{Option}
 use Rattle.vec_base.specs.declared.limits.TheConstants.{LAST_COUNT}
@@ -85,6 +85,10 @@ FitsRoom room got.Failed = ⊤
 -- the last connection that came has a rise too
 abbrev pub risen_by : Bool → Option (List Bool) → Option (List Bool)
 risen_by rose risen = option_map (on_last (λ before. before || rose)) risen
+
+-- no call was made on the connection that is there, or it has a rise where the count rose
+abbrev pub RisenSince : Option (List Bool) → ℕ → Option (List Bool) → ℕ → Type 0
+RisenSince old before new now = ((new ≡ old) × (now ≡ before)) ⊎ (new ≡ risen_by (has_risen before now) old)
 
 -- the bytes come behind those that were sent on the last connection
 abbrev pub sent_more : List ℕ → Option (List (List ℕ)) → Option (List (List ℕ))

@@ -4,7 +4,7 @@ use borrow.Rule.Slice.PartMut.{put_mid}
 use Rattle.vec_base.proofs.StreamLaws.{loses-append}
 use Rattle.http_heads.specs.declared.head.Head.TheVariants as head
 use Rattle.http_heads.proofs.FillLaws.{filled_by, same_length, some_bytes}
-use Rattle.http_heads.proofs.HeadLaws.{for_all, none_in_room, too_many, whole_head}
+use Rattle.http_heads.proofs.HeadLaws.{for_all, none_in_room, risen_more, risen_some, too_many, whole_head}
 use Rattle.http_heads.proofs.head.read_head.Goals as goal
 
 pub returns-in-Ok-Complete-clause-took : goal.returns-in-Ok-Complete-clause-took
@@ -51,6 +51,7 @@ loop-filled-preserved g c =
       none = inr (rw c.in-Ok-Partial.field-0-is at c.in-Ok-Partial.ensures.partial);
       coming = c.in-Took.ensures.coming ∙ c.loop-filled.invariant.coming;
       sent = c.in-Took.ensures.sent ∙ c.loop-filled.invariant.sent;
+      risen = inr (risen_more _ _ _ _ _ _ _ c.loop-filled.invariant.risen c.loop-filled.invariant.later c.in-Took.ensures.later c.in-Took.ensures.risen);
       later = omega (arith, c.in-Took.ensures.later, c.loop-filled.invariant.later);
     }
 
@@ -65,3 +66,27 @@ returns-clause-exact g c =
         | inr none ↦ none_in_room _ left none (omega (arith, fits, c.loop-filled.invariant.buffer_room, c.loop-filled-test.false))
       ],
     ))
+
+pub returns-in-Ok-Complete-clause-risen : goal.returns-in-Ok-Complete-clause-risen
+returns-in-Ok-Complete-clause-risen g c =
+    risen_more _ _ _ _ _ _ _ c.loop-filled.invariant.risen c.loop-filled.invariant.later c.in-Took.ensures.later c.in-Took.ensures.risen
+
+pub returns-in-Err-clause-risen : goal.returns-in-Err-clause-risen
+returns-in-Err-clause-risen g c =
+    risen_more _ _ _ _ _ _ _ c.loop-filled.invariant.risen c.loop-filled.invariant.later c.in-Took.ensures.later c.in-Took.ensures.risen
+
+pub returns-then-filled-eq0-clause-risen : goal.returns-then-filled-eq0-clause-risen
+returns-then-filled-eq0-clause-risen g c =
+    risen_more _ _ _ _ _ _ _ c.loop-filled.invariant.risen c.loop-filled.invariant.later c.in-End.ensures.later c.in-End.ensures.risen
+
+pub returns-else-filled-eq0-clause-risen : goal.returns-else-filled-eq0-clause-risen
+returns-else-filled-eq0-clause-risen g c =
+    risen_more _ _ _ _ _ _ _ c.loop-filled.invariant.risen c.loop-filled.invariant.later c.in-End.ensures.later c.in-End.ensures.risen
+
+pub returns-in-Failed-clause-risen : goal.returns-in-Failed-clause-risen
+returns-in-Failed-clause-risen g c =
+    risen_more _ _ _ _ _ _ _ c.loop-filled.invariant.risen c.loop-filled.invariant.later c.in-Failed.ensures.later c.in-Failed.ensures.risen
+
+pub returns-clause-risen : goal.returns-clause-risen
+returns-clause-risen g c =
+    risen_some c.loop-filled.filled _ _ _ _ (omega (arith, c.loop-filled.invariant.buffer_room, c.loop-filled-test.false)) c.loop-filled.invariant.risen
