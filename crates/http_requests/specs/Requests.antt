@@ -1,5 +1,6 @@
 -- What a head and a body ask for, and the status where they ask for nothing.
-use Rattle.std.specs.Prelude.{◌≡◌, ℕ, List, Option, Some, None, Result, Ok, Err, option_map, nat_lt, if◌then◌else◌, ⊤}
+use Rattle.std.specs.Prelude.{◌≡◌, ◌≤◌, ℕ, List, Option, Some, None, Result, Ok, Err, option_map, nat_lt, if◌then◌else◌, ⊤}
+use Rattle.vec_base.specs.declared.limits.TheConstants.{MOST_REPLY_ROWS}
 use Rattle.http_bodies.specs.Bodies.{statement_of, count_of}
 use Rattle.http_bodies.specs.declared.body.StatementBody.{StatementBody}
 use Rattle.http_bodies.specs.declared.body.BodyFault.{BodyFault}
@@ -81,3 +82,13 @@ request_answer r bytes = said_or_bad (request_said r bytes)
 abbrev pub fault_for : BodyFault → RequestFault
 fault_for Form = Status 400
 fault_for WantOfMemory = Memory
+
+-- the next rows of a cursor are at least one, and at most the most rows of a reply
+abbrev pub HasCount : WireRequest → Type 0
+HasCount request.OpenSession = ⊤
+HasCount (request.CloseSession s) = ⊤
+HasCount (request.Statement s sql params) = ⊤
+HasCount (request.OpenCursor s sql params) = ⊤
+HasCount (request.Fetch s c count) = (1 ≤ count) × (count ≤ MOST_REPLY_ROWS)
+HasCount (request.CloseCursor s c) = ⊤
+HasCount request.Shutdown = ⊤

@@ -1,7 +1,7 @@
 //! What a head and a body ask for, and the status where they ask for nothing.
 ghost use Rattle.std.specs.Prelude.{◌≡◌, ◌≤◌, IfOk};
 ghost use Rattle.http_requests.specs.declared.request.TheConstants.{MOST_BODY_BYTES};
-ghost use Rattle.http_requests.specs.Requests.{Answers, with_framing, head_answer, fault_for, request_answer};
+ghost use Rattle.http_requests.specs.Requests.{Answers, HasCount, with_framing, head_answer, fault_for, request_answer};
 
 use crate::{Framing, Route, path_of, route_of};
 use http::StatusCode;
@@ -110,6 +110,7 @@ fn body_fault(fault_of_body: BodyFault) -> RequestFault
 /// What a route and the bytes of its body ask for.
 pub fn request_of(alloc: Global, route: Route, bytes: &[u8]) -> Result<WireRequest, RequestFault>
     ensures exact { Answers result (request_answer route bytes.now) }
+    ensures count { IfOk result HasCount }
 {
     match route {
         Route::OpenSession => Ok(WireRequest::OpenSession),
