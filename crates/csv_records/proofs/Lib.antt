@@ -1,0 +1,4 @@
+mod FieldLaws
+mod GoodLaws
+mod Reaching
+mod WrittenLaws
