@@ -1,0 +1,3 @@
+pub mod MapLaws
+pub mod RunLaws
+pub mod StopLaws

@@ -1,0 +1,2 @@
+-- Making: what making batches on tables in memory answers.
+pub mod Making
