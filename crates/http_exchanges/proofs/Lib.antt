@@ -1,0 +1,4 @@
+mod BehindLaws
+mod FieldLaws
+mod OneLaws
+mod SayingLaws
