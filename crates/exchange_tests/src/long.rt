@@ -28,9 +28,9 @@ fn fields_of(alloc: Global, count: usize) -> Result<String, Memory> {
 }
 
 /// A statement whose parameter is this many arrays in one another.
-fn depth_of(alloc: Global, depth: usize) -> Result<String, Memory> {
+fn depth_of(alloc: Global, depth: u16) -> Result<String, Memory> {
     let mut text = String::new(alloc);
-    let length = 2 * depth + 23;
+    let length = 2 * u32::from(depth) + 23;
     text.push_str("POST /sessions/1/statements HTTP/1.1\r\nContent-Length: ")?;
     text.push_str(format!(in alloc; "{length}\r\n\r\n")?.as_str())?;
     text.push_str(r#"{"sql":"a","params":["#)?;

@@ -93,7 +93,7 @@ const CONNECTIONS: [(&str, &str); 58] = [
         "400",
     ),
     ("GET /nothing HTTP/1.1\r\n\r\n", "404"),
-    ("POST / HTTP/1.1\r\n\r\n", "404"),
+    ("POST /nothing HTTP/1.1\r\n\r\n", "404"),
     ("POST * HTTP/1.1\r\n\r\n", "404"),
     ("POST /Sessions HTTP/1.1\r\n\r\n", "404"),
     ("POST /sessions/ HTTP/1.1\r\n\r\n", "404"),
@@ -130,120 +130,78 @@ const CONNECTIONS: [(&str, &str); 58] = [
     ),
 ];
 
-/// Paths with bodies.
-const BODIES: [(&str, &str, &str); 34] = [
-    ("/sessions/1/statements", r#"{"sql":"COMMIT"}"#, "statement"),
+/// Bodies of statements.
+const STATEMENTS: [(&str, &str); 26] = [
+    (r#"{"sql":"COMMIT"}"#, "statement"),
+    (r#" { "sql" : "" , "params" : [ ] } "#, "statement"),
+    (r#"{"sql":"a","sql":"b","other":[{}]}"#, "statement"),
+    (r#"{"sql":"a","params":[null,true,-7,"x"]}"#, "statement"),
+    (r#"{"sql":"a","params":[[],[-128,127]]}"#, "statement"),
+    (r#"{"sql":"a","params":[9223372036854775807]}"#, "statement"),
     (
-        "/sessions/1/statements",
-        r#" { "sql" : "" , "params" : [ ] } "#,
-        "statement",
-    ),
-    (
-        "/sessions/1/statements",
-        r#"{"sql":"a","sql":"b","other":[{}]}"#,
-        "statement",
-    ),
-    (
-        "/sessions/1/statements",
-        r#"{"sql":"a","params":[null,true,-7,"x"]}"#,
-        "statement",
-    ),
-    (
-        "/sessions/1/statements",
-        r#"{"sql":"a","params":[[],[-128,127]]}"#,
-        "statement",
-    ),
-    (
-        "/sessions/1/statements",
-        r#"{"sql":"a","params":[9223372036854775807]}"#,
-        "statement",
-    ),
-    (
-        "/sessions/1/statements",
         r#"{"sql":"a","params":[{"hex":"0aF0"},{"bits":""}]}"#,
         "statement",
     ),
-    ("/sessions/1/cursors", r#"{"sql":"SELECT"}"#, "open cursor"),
-    ("/sessions/1/cursors/2/rows", r#"{"count":1}"#, "rows"),
-    (
-        "/sessions/1/cursors/2/rows",
-        r#"{"count":4096,"sql":1}"#,
-        "rows",
-    ),
-    ("/sessions/1/statements", "", "400"),
-    ("/sessions/1/statements", "{}", "400"),
-    ("/sessions/1/statements", "[]", "400"),
-    ("/sessions/1/statements", r#""sql""#, "400"),
-    ("/sessions/1/statements", r#"{"sql":null}"#, "400"),
-    ("/sessions/1/statements", r#"{"sql":"a"} x"#, "400"),
-    ("/sessions/1/statements", r#"{"sql":"a",}"#, "400"),
-    ("/sessions/1/statements", r#"{"sql":"\ud800"}"#, "400"),
-    (
-        "/sessions/1/statements",
-        r#"{"sql":"a","params":null}"#,
-        "400",
-    ),
-    (
-        "/sessions/1/statements",
-        r#"{"sql":"a","params":[1.0]}"#,
-        "400",
-    ),
-    (
-        "/sessions/1/statements",
-        r#"{"sql":"a","params":[1e2]}"#,
-        "400",
-    ),
-    (
-        "/sessions/1/statements",
-        r#"{"sql":"a","params":[-0]}"#,
-        "400",
-    ),
-    (
-        "/sessions/1/statements",
-        r#"{"sql":"a","params":[9223372036854775808]}"#,
-        "400",
-    ),
-    (
-        "/sessions/1/statements",
-        r#"{"sql":"a","params":[[128]]}"#,
-        "400",
-    ),
-    (
-        "/sessions/1/statements",
-        r#"{"sql":"a","params":[[true]]}"#,
-        "400",
-    ),
-    (
-        "/sessions/1/statements",
-        r#"{"sql":"a","params":[{"hex":"0"}]}"#,
-        "400",
-    ),
-    (
-        "/sessions/1/statements",
-        r#"{"sql":"a","params":[{"hex":"0g"}]}"#,
-        "400",
-    ),
-    (
-        "/sessions/1/statements",
-        r#"{"sql":"a","params":[{"hex":"","bits":""}]}"#,
-        "400",
-    ),
-    (
-        "/sessions/1/statements",
-        r#"{"sql":"a","params":[{}]}"#,
-        "400",
-    ),
-    ("/sessions/1/cursors", r#"{"params":[]}"#, "400"),
-    ("/sessions/1/cursors/2/rows", r#"{"count":0}"#, "400"),
-    ("/sessions/1/cursors/2/rows", r#"{"count":4097}"#, "400"),
-    ("/sessions/1/cursors/2/rows", r#"{"count":"1"}"#, "400"),
-    ("/sessions/1/cursors/2/rows", r#"{"count":1.5}"#, "400"),
+    ("", "400"),
+    ("{}", "400"),
+    ("[]", "400"),
+    (r#""sql""#, "400"),
+    (r#"{"sql":null}"#, "400"),
+    (r#"{"sql":"a"} x"#, "400"),
+    (r#"{"sql":"a",}"#, "400"),
+    (r#"{"sql":"\ud800"}"#, "400"),
+    (r#"{"sql":"a","params":null}"#, "400"),
+    (r#"{"sql":"a","params":[1.0]}"#, "400"),
+    (r#"{"sql":"a","params":[1e2]}"#, "400"),
+    (r#"{"sql":"a","params":[-0]}"#, "400"),
+    (r#"{"sql":"a","params":[9223372036854775808]}"#, "400"),
+    (r#"{"sql":"a","params":[[128]]}"#, "400"),
+    (r#"{"sql":"a","params":[[true]]}"#, "400"),
+    (r#"{"sql":"a","params":[{"hex":"0"}]}"#, "400"),
+    (r#"{"sql":"a","params":[{"hex":"0g"}]}"#, "400"),
+    (r#"{"sql":"a","params":[{"hex":"","bits":""}]}"#, "400"),
+    (r#"{"sql":"a","params":[{}]}"#, "400"),
+];
+
+/// Bodies of cursors that are opened.
+const CURSORS: [(&str, &str); 2] = [
+    (r#"{"sql":"SELECT"}"#, "open cursor"),
+    (r#"{"params":[]}"#, "400"),
+];
+
+/// Bodies of the next rows of a cursor.
+const COUNTS: [(&str, &str); 6] = [
+    (r#"{"count":1}"#, "rows"),
+    (r#"{"count":4096,"sql":1}"#, "rows"),
+    (r#"{"count":0}"#, "400"),
+    (r#"{"count":4097}"#, "400"),
+    (r#"{"count":"1"}"#, "400"),
+    (r#"{"count":1.5}"#, "400"),
 ];
 
 /// A request with a body.
-fn with_body(alloc: Global, path: &str, body: &str) -> Result<String, Memory> {
-    let length = body.len();
-    Ok(format!(in alloc; "POST {path} HTTP/1.1\r\nContent-Length: {length}\r\n\r\n{body}")?)
+fn with_body(alloc: Global, path: &[u8], body: &[u8]) -> Result<Vec<u8>, Memory> {
+    let length = format!(in alloc; "{}", body.len())?;
+    let mut bytes = Vec::from_slice(alloc, b"POST ")?;
+    bytes.extend_from_slice(path)?;
+    bytes.extend_from_slice(b" HTTP/1.1\r\nContent-Length: ")?;
+    bytes.extend_from_slice(length.as_bytes())?;
+    bytes.extend_from_slice(b"\r\n\r\n")?;
+    bytes.extend_from_slice(body)?;
+    Ok(bytes)
+}
+
+/// What a request with a body asks for, and what it asks for without its last byte, in words.
+fn whole_and_short(
+    alloc: Global,
+    path: &[u8],
+    body: &[u8],
+) -> Result<(&'static str, &'static str), Fail> {
+    let bytes = with_body(alloc, path, body).or(Err("no memory"))?;
+    let whole = exchange(alloc, bytes.as_slice(), 5, &[])?;
+    let end = bytes.len().saturating_sub(1);
+    let short = exchange(alloc, &bytes.as_slice()[..end], 5, &[])?;
+    Ok((words(&whole), words(&short)))
 }
 
 #[test]
@@ -255,13 +213,23 @@ fn connections_ask_for_what_their_bytes_say(rt: HostRuntime) -> Result<(), Fail>
             assert_eq!(rt; words(&found), expected, "{bytes} by {piece}");
         }
     }
-    for (path, body, expected) in BODIES {
-        let text = with_body(alloc, path, body).or(Err("no memory"))?;
-        let found = exchange(alloc, text.as_bytes(), 5, &[])?;
-        assert_eq!(rt; words(&found), expected, "{path} {body}");
-        let end = text.len().saturating_sub(1);
-        let short = exchange(alloc, &text.as_bytes()[..end], 5, &[])?;
-        assert_eq!(rt; words(&short), "400", "{path} {body} without its last byte");
+    for (body, expected) in STATEMENTS {
+        let found = whole_and_short(alloc, b"/sessions/1/statements", body.as_bytes())?;
+        assert_eq!(rt; found, (expected, "400"), "{body}");
+    }
+    Ok(())
+}
+
+#[test]
+fn cursors_ask_for_what_their_bodies_say(rt: HostRuntime) -> Result<(), Fail> {
+    let alloc = rt.alloc();
+    for (body, expected) in CURSORS {
+        let found = whole_and_short(alloc, b"/sessions/1/cursors", body.as_bytes())?;
+        assert_eq!(rt; found, (expected, "400"), "{body}");
+    }
+    for (body, expected) in COUNTS {
+        let found = whole_and_short(alloc, b"/sessions/1/cursors/2/rows", body.as_bytes())?;
+        assert_eq!(rt; found, (expected, "400"), "{body}");
     }
     Ok(())
 }
