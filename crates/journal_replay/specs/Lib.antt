@@ -1,0 +1,2 @@
+-- Opening: what opening a journal answers.
+pub mod Opening
