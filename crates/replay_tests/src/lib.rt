@@ -1,0 +1,5 @@
+//! Tests of what journals of any bytes give.
+#![tactic(auto)]
+
+#[cfg(test)]
+mod journals;
